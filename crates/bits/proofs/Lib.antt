@@ -1,0 +1,17 @@
+pub mod Xor
+pub mod Computed
+pub mod Digits
+pub mod Sums
+pub mod Tabs
+pub mod Filling
+pub mod Conds
+pub mod Belows
+pub mod Multiples
+pub mod Changing
+pub mod Parts
+pub mod Alls
+pub mod Ands
+pub mod BigEndians
+pub mod Tests
+pub mod BelowSets
+pub mod Turns

@@ -1,0 +1,5 @@
+pub mod Bit
+pub mod BigEndian
+pub mod Polynomials
+pub mod Refusals
+pub mod Alls

@@ -1,0 +1,70 @@
+// What every other crate uses: the numbered refusals, and bits of bytes. The definitions are in specs/, their laws in proofs/.
+ghost use mathlib.Core.Path.{_≡_};
+ghost use Prim.Native.Nat.{_*_, _<_, _≤_};
+ghost use lib.ListN.{length};
+ghost use Rattle.bits.specs.Bit.{bitLo, tab};
+ghost use Rattle.bits.specs.Refusals.{numberOf};
+
+// Document 01's twelve refusals, in the order of their numbers.
+pub enum Refusal {
+    Dibit,
+    FrameRoom,
+    StreamEnd,
+    Table,
+    Size,
+    NoSpeech,
+    Stream,
+    Offset,
+    Positions,
+    Tail,
+    Erasure,
+    Record,
+}
+
+// The answer of a call that writes into lent memory and has nothing else to say.
+pub enum Writing {
+    Written,
+    Refused(Refusal),
+}
+
+// The number that document 01 gives a refusal.
+pub fn number_of(refusal: Refusal) -> u8
+    ensures { λ r. ⌜ r ≡ numberOf refusal ⌝ }
+{
+    match refusal {
+        Refusal::Dibit => 1,
+        Refusal::FrameRoom => 2,
+        Refusal::StreamEnd => 3,
+        Refusal::Table => 4,
+        Refusal::Size => 5,
+        Refusal::NoSpeech => 6,
+        Refusal::Stream => 7,
+        Refusal::Offset => 8,
+        Refusal::Positions => 9,
+        Refusal::Tail => 10,
+        Refusal::Erasure => 11,
+        Refusal::Record => 12,
+    }
+}
+
+// A byte as an index. A cast in place would leave each caller the fact that it fits.
+pub fn wide(x: u8) -> usize
+    ensures { λ r. ⌜ (r ≡ x) × (r < 256) ⌝ }
+{
+    x as usize
+}
+
+// A byte, with the fact that it is one: an array's element comes without.
+pub fn byte(x: u8) -> u8
+    ensures { λ r. ⌜ (r ≡ x) × (r < 256) ⌝ }
+{
+    x
+}
+
+// Bit i of a slice of bytes, lowest bit first in its byte.
+pub fn bit(bytes: &[u8], i: usize) -> u8
+    requires { ⌜ i < 8 * length (now bytes) ⌝ }
+    ensures { λ r. ⌜ r ≡ bitLo (now (bytes .entry)) i ⌝ }
+{
+    (bytes[i / 8] >> (i % 8)) % 2
+}
