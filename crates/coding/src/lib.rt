@@ -1,0 +1,31 @@
+// The coding of a word into the 384 bits of an envelope and back, and CRC-16.
+ghost use mathlib.Core.Path.{_≡_};
+ghost use Rattle.coding.specs.Markers.{theMarkers};
+ghost use Rattle.coding.specs.Statements.{CrcMeaning, ScramblingLaws};
+
+mod crc;
+mod scrambling;
+
+pub use crc::crc16;
+pub use scrambling::descramble;
+pub use scrambling::scramble;
+
+// The marker that opens each of an envelope's three segments.
+const MARKERS: [u16; 3] = [0x3d22, 0xe867, 0xe867];
+
+// The markers as a value. A constant is stored anew at each use: a caller that tests many places makes it once and lends it.
+pub fn markers() -> [u16; 3]
+    ensures { λ r. ⌜ r ≡ theMarkers ⌝ }
+{
+    MARKERS
+}
+
+// CRC-16 means the remainder of a division of polynomials.
+pub fn crc_meaning()
+    ensures { λ _. ⌜ CrcMeaning ⌝ }
+{}
+
+// Scrambling and descrambling undo each other.
+pub fn scrambling_laws()
+    ensures { λ _. ⌜ ScramblingLaws ⌝ }
+{}

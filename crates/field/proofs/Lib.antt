@@ -1,0 +1,4 @@
+pub mod Products
+pub mod TableRules
+pub mod Laws
+pub mod Textbook

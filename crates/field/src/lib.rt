@@ -1,0 +1,95 @@
+// GF(256) over 0x11d: product, quotient and powers of 2, by two constant tables. The definitions, by polynomials, are in specs/Field.antt.
+// A constant is stored anew at each use. So each call has a form `.._by` to which its caller lends the tables: a caller with many
+// products makes them once. Both forms promise the same.
+ghost use mathlib.Core.Path.{_≡_};
+ghost use Prim.Native.Nat.{_<_};
+ghost use Rattle.field.specs.Field.{product, quotient, power, Log, Powers, Logs};
+ghost use Rattle.field.specs.Statements.{FieldLaws};
+
+mod tables;
+
+use tables::LOGS;
+use tables::POWERS;
+
+// The tables, to be lent to the calls below.
+pub fn powers() -> [u8; 510]
+    ensures { λ r. ⌜ Powers r ⌝ }
+{
+    POWERS
+}
+
+pub fn logs() -> [u8; 256]
+    ensures { λ r. ⌜ Logs r ⌝ }
+{
+    LOGS
+}
+
+// The logarithm of a byte other than 0.
+fn log(logs: &[u8; 256], a: u8) -> usize
+    requires { ⌜ Logs (now logs) ⌝ }
+    ensures { λ r. ⌜ Log a r ⌝ }
+{
+    bits::wide(logs[bits::wide(a)])
+}
+
+// The i-th power of 2, by the lent table.
+pub fn power_by(powers: &[u8; 510], i: usize) -> u8
+    requires { ⌜ Powers (now powers) ⌝ }
+    ensures { λ r. ⌜ r ≡ power i ⌝ }
+{
+    powers[i % 255]
+}
+
+// a times b, by the lent tables.
+pub fn product_by(powers: &[u8; 510], logs: &[u8; 256], a: u8, b: u8) -> u8
+    requires { ⌜ Powers (now powers) ⌝ ∗ ⌜ Logs (now logs) ⌝ }
+    ensures { λ r. ⌜ r ≡ product a b ⌝ }
+{
+    if a == 0 {
+        return 0;
+    }
+    if b == 0 {
+        return 0;
+    }
+    powers[log(logs, a) + log(logs, b)]
+}
+
+// a over b, and 0 where b is 0, by the lent tables.
+pub fn quotient_by(powers: &[u8; 510], logs: &[u8; 256], a: u8, b: u8) -> u8
+    requires { ⌜ Powers (now powers) ⌝ ∗ ⌜ Logs (now logs) ⌝ }
+    ensures { λ r. ⌜ r ≡ quotient a b ⌝ }
+{
+    if a == 0 {
+        return 0;
+    }
+    if b == 0 {
+        return 0;
+    }
+    powers[log(logs, a) + 255 - log(logs, b)]
+}
+
+// The i-th power of 2.
+pub fn power(i: usize) -> u8
+    ensures { λ r. ⌜ r ≡ power i ⌝ }
+{
+    power_by(&powers(), i)
+}
+
+// a times b.
+pub fn product(a: u8, b: u8) -> u8
+    ensures { λ r. ⌜ r ≡ product a b ⌝ }
+{
+    product_by(&powers(), &logs(), a, b)
+}
+
+// a over b, and 0 where b is 0.
+pub fn quotient(a: u8, b: u8) -> u8
+    ensures { λ r. ⌜ r ≡ quotient a b ⌝ }
+{
+    quotient_by(&powers(), &logs(), a, b)
+}
+
+// The definitions are the textbook's field: one statement, in specs/Statements.antt.
+pub fn field_laws()
+    ensures { λ _. ⌜ FieldLaws ⌝ }
+{}
