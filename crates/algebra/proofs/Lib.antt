@@ -1,0 +1,13 @@
+pub mod Fields
+pub mod Vandermonde
+pub mod Weights
+pub mod Polynomial
+pub mod Massey
+pub mod Locate
+pub mod Word
+pub mod Elimination
+pub mod System
+pub mod Erasures
+pub mod Complete
+pub mod Bytes
+pub mod Low

@@ -1,0 +1,9 @@
+pub mod ErasedPlaces
+pub mod Searching
+pub mod Outcome
+pub mod Linear
+pub mod Registers
+pub mod Written
+pub mod Encoding
+pub mod Called
+pub mod SixErasures

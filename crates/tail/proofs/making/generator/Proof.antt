@@ -1,0 +1,16 @@
+-- `tail::making::generator` meets its contract.
+-- Assumes nothing.
+use mathlib.Core.Path.{refl}
+use Rattle.tail.specs.Encode.{generatorOf}
+use Rattle.tail.proofs.making.generator.Statement.{statement}
+use Rattle.tail.proofs.making.generator.Tie as tie
+
+returns : tie.Need-returns
+unfolding generatorOf
+returns c = refl
+
+pub generator-spec : {M : Type 1} → statement M
+generator-spec =
+    tie.close
+    (tie.spec
+    returns)

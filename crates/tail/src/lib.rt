@@ -1,0 +1,89 @@
+// The tail of a word: fourteen bytes, eight of them free, with the roots 2^0 to 2^5. Its repair, with or without erased places, and its making.
+// The definitions are in specs/ (Repair.antt, Calls.antt, Encode.antt), what they mean in specs/Statements.antt; the steps of the repair are
+// the crate `tail_steps`. The field's two tables are made once at the top of each call and lent to everything below.
+ghost use mathlib.Core.Path.{_≡_};
+ghost use mathlib.Core.List.{[]};
+ghost use Rattle.tail.specs.Calls.{tailAnswer, tailLeaves, wordAnswer, wordLeaves};
+ghost use Rattle.tail.specs.Encode.{encodeAnswer, encodeLeaves};
+ghost use Rattle.tail.specs.Statements.{RepairLaws, EncodeLaws};
+use bits::Refusal;
+use bits::Writing;
+
+mod by_value;
+mod lent;
+mod making;
+
+pub use by_value::RepairedTail;
+pub use by_value::repair_by;
+pub use making::tail_by;
+
+// What a repair answers: how many bytes it changed, or a refusal.
+pub enum Repairing {
+    Repaired(usize),
+    Refused(Refusal),
+}
+
+// The repair of a lent tail with places erased.
+pub fn repair_erasures(tail: &mut [u8], places: &[u8]) -> Repairing
+    ensures { λ r. ⌜ r ≡ tailAnswer (now (places .entry)) (now (tail .entry)) ⌝ }
+    ensures leaves { λ r. ⌜ now (tail .exit) ≡ tailLeaves (now (places .entry)) (now (tail .entry)) ⌝ }
+{
+    if tail.len() != 14 {
+        return Repairing::Refused(Refusal::Size);
+    }
+    if !lent::may_erase(places) {
+        return Repairing::Refused(Refusal::Erasure);
+    }
+    lent::repair_lent(tail, places)
+}
+
+// The repair of a lent tail.
+pub fn repair(tail: &mut [u8]) -> Repairing
+    ensures { λ r. ⌜ r ≡ tailAnswer [] (now (tail .entry)) ⌝ }
+    ensures leaves { λ r. ⌜ now (tail .exit) ≡ tailLeaves [] (now (tail .entry)) ⌝ }
+{
+    let none = [0u8; 1];
+    repair_erasures(tail, &none[..0])
+}
+
+// The repair of a lent word with places of its tail erased: only its last fourteen bytes are lent on.
+pub fn repair_word_erasures(word: &mut [u8], places: &[u8]) -> Repairing
+    ensures { λ r. ⌜ r ≡ wordAnswer (now (places .entry)) (now (word .entry)) ⌝ }
+    ensures leaves { λ r. ⌜ now (word .exit) ≡ wordLeaves (now (places .entry)) (now (word .entry)) ⌝ }
+{
+    if word.len() != 42 {
+        return Repairing::Refused(Refusal::Size);
+    }
+    repair_erasures(&mut word[28..], places)
+}
+
+// The repair of a lent word.
+pub fn repair_word(word: &mut [u8]) -> Repairing
+    ensures { λ r. ⌜ r ≡ wordAnswer [] (now (word .entry)) ⌝ }
+    ensures leaves { λ r. ⌜ now (word .exit) ≡ wordLeaves [] (now (word .entry)) ⌝ }
+{
+    let none = [0u8; 1];
+    repair_word_erasures(word, &none[..0])
+}
+
+// The tail of a lent word made from its bytes 28 to 33.
+pub fn encode_word(word: &mut [u8]) -> Writing
+    ensures { λ r. ⌜ r ≡ encodeAnswer (now (word .entry)) ⌝ }
+    ensures leaves { λ r. ⌜ now (word .exit) ≡ encodeLeaves (now (word .entry)) ⌝ }
+{
+    if word.len() != 42 {
+        return Writing::Refused(Refusal::Size);
+    }
+    making::make_tail(&mut word[28..]);
+    Writing::Written
+}
+
+// What the repair means, as one statement.
+pub fn repair_laws()
+    ensures { λ _. ⌜ RepairLaws ⌝ }
+{}
+
+// What the tail that is made is, as one statement.
+pub fn encode_laws()
+    ensures { λ _. ⌜ EncodeLaws ⌝ }
+{}

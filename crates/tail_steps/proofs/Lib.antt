@@ -1,0 +1,10 @@
+pub mod Rows
+pub mod Coefficients
+pub mod MasseySteps
+pub mod Columns
+pub mod Loops
+pub mod AtMostOne
+pub mod OnBytes
+pub mod Locating
+pub mod Eliminating
+pub mod Correcting
