@@ -1,0 +1,4 @@
+pub mod Pairs
+pub mod Forwards
+pub mod Rows
+pub mod Agree

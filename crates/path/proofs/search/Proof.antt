@@ -1,0 +1,10 @@
+use Rattle.path.specs.Path.{searched}
+use Rattle.path.proofs.search.Statement.{statement}
+use Rattle.path.proofs.search.Tie as tie
+
+returns : tie.Need-returns
+unfolding searched
+returns c = c .search-by .ensures
+
+pub search-spec : {M : Type 1} → statement M
+search-spec = tie.close (tie.spec (λ c κs. c .before .before .pre) returns)

@@ -1,0 +1,82 @@
+// Table admission: document 01's four rules, each a test of its own.
+ghost use mathlib.Core.Path.{_≡_};
+ghost use mathlib.Core.Bool.{_||_};
+ghost use Prim.Native.Nat.{ℕ, _<_};
+ghost use lib.ListN.{getD, length};
+ghost use lib.Dec.{ltb, eqb};
+ghost use Rattle.protected.specs.Table.{count, oddFits, evenFits, eachOnce, admits};
+
+// How often each number stands in the table.
+fn occurrences(table: &[u8]) -> [u8; 256]
+    requires { ⌜ length (now table) ≡ 188 ⌝ }
+    ensures { λ r. ⌜ ((k : ℕ) → k < 256 → getD r k 0 ≡ count k (now (table .entry))) ⌝ }
+{
+    let mut seen = [0u8; 256];
+    for i in 0..188usize {
+        let e = bits::wide(table[i]);
+        seen[e] += 1;
+    }
+    seen
+}
+
+fn odd_fit(table: &[u8]) -> bool
+    requires { ⌜ length (now table) ≡ 188 ⌝ }
+    ensures { λ r. ⌜ r ≡ oddFits (now (table .entry)) ⌝ }
+{
+    for t in 0..94usize {
+        if table[2 * t + 1] >= 176 {
+            return false;
+        }
+    }
+    true
+}
+
+fn even_entry(e: u8) -> bool
+    ensures { λ r. ⌜ r ≡ (ltb e 176 || eqb e 255) ⌝ }
+{
+    if e < 176 {
+        return true;
+    }
+    e == 255
+}
+
+fn even_fit(table: &[u8]) -> bool
+    requires { ⌜ length (now table) ≡ 188 ⌝ }
+    ensures { λ r. ⌜ r ≡ evenFits (now (table .entry)) ⌝ }
+{
+    for t in 0..94usize {
+        if !even_entry(table[2 * t]) {
+            return false;
+        }
+    }
+    true
+}
+
+fn each_once(table: &[u8]) -> bool
+    requires { ⌜ length (now table) ≡ 188 ⌝ }
+    ensures { λ r. ⌜ r ≡ eachOnce (now (table .entry)) ⌝ }
+{
+    let seen = occurrences(table);
+    for k in 0..176usize {
+        if seen[k] != 1 {
+            return false;
+        }
+    }
+    true
+}
+
+// Whether the table is admitted, its length included.
+pub fn admitted(table: &[u8]) -> bool
+    ensures { λ r. ⌜ r ≡ admits (now (table .entry)) ⌝ }
+{
+    if table.len() != 188 {
+        return false;
+    }
+    if !odd_fit(table) {
+        return false;
+    }
+    if !even_fit(table) {
+        return false;
+    }
+    each_once(table)
+}
