@@ -1,0 +1,65 @@
+// The voice frame's decoding as definitions: the encoder's word, the candidate check, each attempt of each stage as a trial, and what the
+// public calls of `voice_frame` answer. There is no code here but the types of those answers; the theorems stand at the end.
+use bits::Refusal;
+ghost use Rattle.trials.specs.Statements.{RoundTrip, ExactDistance, Injective, Refusing, OneAnswer};
+
+// Document 01's stages: (a) to (d) are the hard ones.
+pub enum Stage {
+    StageA,
+    StageB,
+    StageC,
+    StageD,
+    Soft,
+}
+
+// What a trial tests.
+pub enum Test {
+    ModeBits,
+    Repair,
+    NothingRepaired,
+    Crc16,
+    EndBits,
+    Checksum,
+    Distance,
+    Tail,
+    OuterBits,
+    OuterBytes,
+    Total,
+}
+
+// A decoding's answer: the stage that accepted and the corrected bits, or the refusal.
+pub enum Decoding {
+    Accepted(Stage, u32),
+    Refused(Refusal),
+}
+
+// The answer, and the payload beside it: all zero when refused.
+pub struct Decoded {
+    pub decoding: Decoding,
+    pub payload: [u8; 20],
+}
+
+// Demand 2: every encoded payload comes back, with nothing corrected.
+pub fn round_trip()
+    ensures { λ _. ⌜ RoundTrip ⌝ }
+{}
+
+// Demand 2: what the hard decoder accepts has an encoding at exactly the reported distance.
+pub fn exact_distance()
+    ensures { λ _. ⌜ ExactDistance ⌝ }
+{}
+
+// Two payloads that differ have encodings that differ.
+pub fn injective()
+    ensures { λ _. ⌜ Injective ⌝ }
+{}
+
+// A refused call gives only the number.
+pub fn refusing()
+    ensures { λ _. ⌜ Refusing ⌝ }
+{}
+
+// Each call has one answer.
+pub fn one_answer()
+    ensures { λ _. ⌜ OneAnswer ⌝ }
+{}

@@ -1,0 +1,5 @@
+pub mod Measured
+pub mod Tried
+pub mod CandidateCheck
+pub mod Stages
+pub mod Answers
