@@ -1,0 +1,14 @@
+-- `sync::Synchroniser::pending_bits` meets its contract.
+-- Assumes nothing.
+use mathlib.Core.Path.{sym}
+use Rattle.sync.proofs.Finds.{pending-is}
+use Rattle.sync.proofs.Synchroniser.pending_bits.Statement.{statement}
+use Rattle.sync.proofs.Synchroniser.pending_bits.Tie as tie
+use Rattle.sync.proofs.Synchroniser.pending_bits.Reads as reads
+use Rattle.sync.proofs.Synchroniser.pending_bits.Lts as lts
+
+returns : tie.Need-returns
+returns c = sym (pending-is (c .before .args .self))
+
+pub pending-bits-spec : {M : Type 1} → statement M
+pending-bits-spec = tie.close (tie.spec returns)

@@ -1,0 +1,99 @@
+-- `sync::frames::frame_at` meets its contract.
+-- Assumes nothing.
+use mathlib.Core.Path.{_≡_, refl, sym, ap, _∙_}
+use Prim.Native.Nat.{_+_}
+use native.Mathlib.Nat.{add-zero}
+use native.Mathlib.Omega.{arith}
+use denote.Ref.{now}
+use Rattle.sync.proofs.Framing.{goes-out}
+use borrow.Author.Needs.{needs}
+use Rattle.sync.proofs.frames.frame_at.Statement.{statement}
+use Rattle.sync.proofs.frames.frame_at.Tie as tie
+use Rattle.sync.proofs.frames.frame_at.Reads as reads
+use Rattle.sync.proofs.frames.frame_at.Lts as lts
+use Rattle.sync.proofs.room.lay_bits.Reads as lay-bits-reads
+use Rattle.sync.proofs.room.lay_soft.Reads as lay-soft-reads
+use Rattle.sync.proofs.markers.marker.Reads as marker-reads
+use Rattle.sync.proofs.numbers.sent.Reads as sent-reads
+use Rattle.sync.proofs.markers.two_of.Reads as two-of-reads
+
+add-base : tie.Need-add-base
+add-base c = search needs
+
+marker-requires : tie.Need-marker-requires
+marker-requires c κs = search needs
+
+add-marker : tie.Need-add-marker
+add-marker c = search needs
+
+marker-requires-2 : tie.Need-marker-requires-2
+marker-requires-2 c κs = search needs
+
+add-marker-2 : tie.Need-add-marker-2
+add-marker-2 c = search needs
+
+marker-requires-3 : tie.Need-marker-requires-3
+marker-requires-3 c κs = search needs
+
+two-of-requires : tie.Need-two-of-requires
+two-of-requires c κs = search needs
+
+lay-bits-requires : tie.Need-lay-bits-requires
+lay-bits-requires c κs = search needs
+
+add-lay-soft : tie.Need-add-lay-soft
+add-lay-soft c = record { fits = omega (arith, c .before .before .before .before .before .before .before .before .before .before .before .pre .1 .1, c .before .before .before .before .before .before .before .before .before .before .before .good .1 .1 .1 .0 .0) }
+
+lay-soft-requires : tie.Need-lay-soft-requires
+lay-soft-requires c κs =
+    let s = c .before .before .before .before .before .before .before .before .before .before .before in
+    let sn = s .pre .1 .0 in
+    (omega (arith, s .pre .1 .1, c .before .before .before .lay-bits .kept .0), (omega (arith, sn .sound .first-in, sn .sound .restorable-few), (omega (arith, sn .near .1), omega (arith, sn .far .1))))
+
+sent-requires : tie.Need-sent-requires
+sent-requires c κs =
+    let s = c .before .before .before .before .before .before .before .before .before .before .before .before .before .before .pre .1 .0 in
+    (s .sound, (s .far .0, (s .fit .1, (s .failures, s .locked))))
+
+add-t21 : tie.Need-add-t21
+add-t21 c = record { fits = omega (arith, c .before .before .before .before .before .before .before .before .before .before .before .before .before .before .marker .ensures .1 .1, c .before .before .before .before .before .before .before .before .before .before .before .before .before .marker2 .ensures .1 .1) }
+
+add-t22 : tie.Need-add-t22
+add-t22 c = record { fits = omega (arith, c .before .before .before .before .before .before .before .before .before .before .before .before .before .before .before .marker .ensures .1 .1, c .before .before .before .before .before .before .before .before .before .before .before .before .before .before .marker2 .ensures .1 .1, c .before .before .before .before .before .before .before .before .before .before .before .before .before .marker3 .ensures .1 .1) }
+
+same-length : tie.Need-same-length
+same-length c = search needs
+
+returns : tie.Need-returns
+returns c =
+    let s = c .before .before .before .before .before .before .before .before .before .before .before .before .before .before .before .before .before .before in
+    let a = s .args in
+    let k = a .c in
+    let sn = s .pre .1 .0 in
+    let m1 = c .before .before .before .before .before .before .before .before .before .before .before .before .before .before .before .marker .ensures in
+    let m2 = c .before .before .before .before .before .before .before .before .before .before .before .before .before .before .marker2 .ensures in
+    let m3 = c .before .before .before .before .before .before .before .before .before .before .before .before .before .marker3 .ensures in
+    goes-out (now (a .bits)) (now (a .reliabilities)) (now (a .room)) _ _ (a .to) k (a .p) (a .q) sn _ _ _ _ _ _ _
+    (m1 .0 (k .first + k .restorable) 0 (k .pending) (add-zero _) (omega (arith, sn .fit .0))) (m2 .0 (k .first + k .restorable) (a .p) (k .pending) refl (omega (arith, sn .fit .0))) (m3 .0 (k .first + k .restorable) (a .q) (k .pending) refl (omega (arith, sn .fit .1)))
+    (m1 .1 .0 (k .first + k .restorable) 0 (k .pending) (add-zero _) (omega (arith, sn .fit .0))) (m2 .1 .0 (k .first + k .restorable) (a .p) (k .pending) refl (omega (arith, sn .fit .0))) (m3 .1 .0 (k .first + k .restorable) (a .q) (k .pending) refl (omega (arith, sn .fit .1)))
+    (c .before .before .before .before .before .before .before .before .before .before .before .before .two-of .ensures) (c .before .before .before .before .before .before .before .before .before .before .lay-bits .ensures) (c .before .before .before .before .before .before .lay-soft .ensures) _ (c .before .before .before .sent .ensures)
+
+pub frame-at-spec : {M : Type 1} → statement M
+frame-at-spec =
+    tie.close
+    (tie.spec
+    add-base
+    marker-requires
+    add-marker
+    marker-requires-2
+    add-marker-2
+    marker-requires-3
+    two-of-requires
+    lay-bits-requires
+    add-lay-soft
+    lay-soft-requires
+    sent-requires
+    add-t21
+    add-t22
+    same-length
+    returns)

@@ -1,0 +1,66 @@
+-- `sync::room::lay_bits` meets its contract.
+-- Assumes nothing.
+use mathlib.Core.Path.{_≡_, refl, sym, ap, ap₂, _∙_}
+use mathlib.Core.List.{List}
+use Prim.Native.Nat.{ℕ, _+_}
+use denote.Ref.{now}
+use lib.Seq.{sets}
+use Rattle.sync.specs.Ring.{ring, runs}
+use Rattle.sync_rules.specs.Room.{bytesOf}
+use Rattle.sync.proofs.Rings.{length-ring}
+use Rattle.sync.proofs.Rooms.{three-runs, bytesOf-runs, length-bytesOf}
+use borrow.Author.Needs.{needs}
+use Rattle.sync.proofs.room.lay_bits.Statement.{statement}
+use Rattle.sync.proofs.room.lay_bits.Tie as tie
+use Rattle.sync.proofs.room.lay_bits.Reads as reads
+use Rattle.sync.proofs.room.lay_bits.Lts as lts
+use Rattle.sync.proofs.room.write_bits.Reads as write-bits-reads
+
+write-bits-requires : tie.Need-write-bits-requires
+write-bits-requires c κs = search needs
+
+add-write-bits : tie.Need-add-write-bits
+add-write-bits c = search needs
+
+add-write-bits-2 : tie.Need-add-write-bits-2
+add-write-bits-2 c = search needs
+
+write-bits-requires-2 : tie.Need-write-bits-requires-2
+write-bits-requires-2 c κs = search needs
+
+add-write-bits-3 : tie.Need-add-write-bits-3
+add-write-bits-3 c = search needs
+
+add-write-bits-4 : tie.Need-add-write-bits-4
+add-write-bits-4 c = search needs
+
+write-bits-requires-3 : tie.Need-write-bits-requires-3
+write-bits-requires-3 c κs = search needs
+
+same-length : tie.Need-same-length
+same-length c = search needs
+
+returns : tie.Need-returns
+returns c =
+    let a = c .before .before .before .before .before .before .before .before .before .before .before .before .before .args in
+    let xs = now (a .bits) in
+    let l = now (a .room) in
+    c .before .before .write-bits3 .ensures
+    ∙ ap (λ (z : List ℕ). sets z (a .to + 32) (bytesOf 16 (ring xs (a .base + a .q) 128)))
+    (c .before .before .before .before .before .before .write-bits2 .ensures ∙ ap (λ (z : List ℕ). sets z (a .to + 16) (bytesOf 16 (ring xs (a .base + a .p) 128))) (c .before .before .before .before .before .before .before .before .before .before .write-bits .ensures))
+    ∙ three-runs l (a .to) 16 (bytesOf 16 (ring xs (a .base) 128)) (bytesOf 16 (ring xs (a .base + a .p) 128)) (bytesOf 16 (ring xs (a .base + a .q) 128)) (length-bytesOf 16 (ring xs (a .base) 128)) (length-bytesOf 16 (ring xs (a .base + a .p) 128))
+    ∙ ap (sets l (a .to)) (sym (bytesOf-runs xs (a .base) (a .p) (a .q)))
+
+pub lay-bits-spec : {M : Type 1} → statement M
+lay-bits-spec =
+    tie.close
+    (tie.spec
+    write-bits-requires
+    add-write-bits
+    add-write-bits-2
+    write-bits-requires-2
+    add-write-bits-3
+    add-write-bits-4
+    write-bits-requires-3
+    same-length
+    returns)

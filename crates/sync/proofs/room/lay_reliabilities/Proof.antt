@@ -1,0 +1,66 @@
+-- `sync::room::lay_reliabilities` meets its contract.
+-- Assumes nothing.
+use mathlib.Core.Path.{_≡_, refl, sym, ap, ap₂, _∙_}
+use mathlib.Core.List.{List}
+use Prim.Native.Nat.{ℕ, _+_}
+use denote.Ref.{now}
+use lib.Seq.{sets}
+use Rattle.sync.specs.Ring.{ring, runs}
+use Rattle.sync_rules.specs.Room.{bytesOf}
+use Rattle.sync.proofs.Rings.{length-ring}
+use Rattle.sync.proofs.Rooms.{three-runs, bytesOf-runs, length-bytesOf}
+use borrow.Author.Needs.{needs}
+use Rattle.sync.proofs.room.lay_reliabilities.Statement.{statement}
+use Rattle.sync.proofs.room.lay_reliabilities.Tie as tie
+use Rattle.sync.proofs.room.lay_reliabilities.Reads as reads
+use Rattle.sync.proofs.room.lay_reliabilities.Lts as lts
+use Rattle.sync.proofs.room.write_reliabilities.Reads as write-reliabilities-reads
+
+write-reliabilities-requires : tie.Need-write-reliabilities-requires
+write-reliabilities-requires c κs = search needs
+
+add-write-reliabilities : tie.Need-add-write-reliabilities
+add-write-reliabilities c = search needs
+
+add-write-reliabilities-2 : tie.Need-add-write-reliabilities-2
+add-write-reliabilities-2 c = search needs
+
+write-reliabilities-requires-2 : tie.Need-write-reliabilities-requires-2
+write-reliabilities-requires-2 c κs = search needs
+
+add-write-reliabilities-3 : tie.Need-add-write-reliabilities-3
+add-write-reliabilities-3 c = search needs
+
+add-write-reliabilities-4 : tie.Need-add-write-reliabilities-4
+add-write-reliabilities-4 c = search needs
+
+write-reliabilities-requires-3 : tie.Need-write-reliabilities-requires-3
+write-reliabilities-requires-3 c κs = search needs
+
+same-length : tie.Need-same-length
+same-length c = search needs
+
+returns : tie.Need-returns
+unfolding runs
+returns c =
+    let a = c .before .before .before .before .before .before .before .before .before .before .before .before .before .args in
+    let xs = now (a .reliabilities) in
+    let l = now (a .room) in
+    c .before .before .write-reliabilities3 .ensures
+    ∙ ap (λ (z : List ℕ). sets z (a .to + 256) (ring xs (a .base + a .q) 128))
+    (c .before .before .before .before .before .before .write-reliabilities2 .ensures ∙ ap (λ (z : List ℕ). sets z (a .to + 128) (ring xs (a .base + a .p) 128)) (c .before .before .before .before .before .before .before .before .before .before .write-reliabilities .ensures))
+    ∙ three-runs l (a .to) 128 (ring xs (a .base) 128) (ring xs (a .base + a .p) 128) (ring xs (a .base + a .q) 128) (length-ring xs (a .base) 128) (length-ring xs (a .base + a .p) 128)
+
+pub lay-reliabilities-spec : {M : Type 1} → statement M
+lay-reliabilities-spec =
+    tie.close
+    (tie.spec
+    write-reliabilities-requires
+    add-write-reliabilities
+    add-write-reliabilities-2
+    write-reliabilities-requires-2
+    add-write-reliabilities-3
+    add-write-reliabilities-4
+    write-reliabilities-requires-3
+    same-length
+    returns)

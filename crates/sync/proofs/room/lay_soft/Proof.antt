@@ -1,0 +1,33 @@
+-- `sync::room::lay_soft` meets its contract.
+-- Assumes nothing.
+use mathlib.Core.Path.{_≡_, refl, sym, ap, _∙_}
+use mathlib.Core.List.{List, []}
+use mathlib.Core.Bool.{Bool, cond}
+use denote.Ref.{now}
+use lib.Seq.{sets}
+use Rattle.sync.specs.Ring.{runs}
+use borrow.Author.Needs.{needs}
+use Rattle.sync.proofs.room.lay_soft.Statement.{statement}
+use Rattle.sync.proofs.room.lay_soft.Tie as tie
+use Rattle.sync.proofs.room.lay_soft.Reads as reads
+use Rattle.sync.proofs.room.lay_soft.Lts as lts
+use Rattle.sync.proofs.room.lay_reliabilities.Reads as lay-reliabilities-reads
+
+lay-reliabilities-requires : tie.Need-lay-reliabilities-requires
+lay-reliabilities-requires c κs = search needs
+
+same-length : tie.Need-same-length
+same-length c = search needs
+
+returns : tie.Need-returns
+returns c =
+    let a = c .before .before .before .before .before .before .args in
+    c .before .before .lay-reliabilities .ensures ∙ ap (λ (t : Bool). sets (now (a .room)) (a .to) (cond t (runs (now (a .reliabilities)) (a .base) (a .p) (a .q)) [])) (sym (c .before .before .before .before .if1 .taken))
+
+returns-2 : tie.Need-returns-2
+returns-2 c =
+    let a = c .before .before .args in
+    ap (λ (t : Bool). sets (now (a .room)) (a .to) (cond t (runs (now (a .reliabilities)) (a .base) (a .p) (a .q)) [])) (sym (c .if1 .left))
+
+pub lay-soft-spec : {M : Type 1} → statement M
+lay-soft-spec = tie.close (tie.spec lay-reliabilities-requires same-length returns returns-2)

@@ -1,0 +1,7 @@
+pub mod Ring
+pub mod View
+pub mod Steps
+pub mod Answers
+pub mod Feeds
+pub mod Calls
+pub mod Statements

@@ -1,0 +1,40 @@
+-- What holds of the calls: they follow the rules, and demand 3 holds of what they hand out.
+-- Assumes nothing.
+use mathlib.Core.Path.{_≡_}
+use mathlib.Core.List.{List, []}
+use mathlib.Core.List.{_++_}
+use mathlib.Core.Bool.{true, false}
+use Prim.Native.Nat.{ℕ, _+_, _*_, _≤_, _<_}
+use lib.ListN.{length, take}
+use Rattle.sync.specs.declared.Synchroniser.{Synchroniser}
+use Rattle.sync.specs.View.{Valid, view}
+use Rattle.sync.specs.Calls.{Call, History, stateOf, accepted, handed, shownAs, streamOf, placeIn, BeginsAt, firstGot, gotInARow}
+use Rattle.sync_rules.specs.Matching.{locksAt, inPlace}
+use Rattle.sync_rules.specs.State.{Input, start}
+use Rattle.sync_rules.specs.Pushes.{run}
+use Rattle.sync_rules.specs.Demand.{stream, FirstLock}
+
+-- any history of calls has the state and the frames of `run` over the pushes that were made, so that every statement of the rules is one of the calls
+pub record Follows (s : Synchroniser) (cs : List Call) : Type 0 where
+  pub valid : Valid (stateOf s cs)
+  pub next : view (stateOf s cs) ≡ run (accepted cs) (view s) .next
+  pub sent : handed cs ≡ shownAs (run (accepted cs) (view s) .sent)
+
+abbrev pub callsFollow : Type 0
+callsFollow = (s : Synchroniser) → Valid s → (cs : List Call) → History s cs → Follows s cs
+
+-- demand 3, word for word as over the rules: `before` are the calls up to where a search begins, `after` some that follow
+pub record DemandCalls (s : Synchroniser) (before after : List Call) : Type 0 where
+  pub early : (later : List Input) (q : ℕ) → FirstLock (stream (accepted (before ++ after) ++ later)) (placeIn s before) q
+      → length (streamOf (before ++ after)) ≤ q + 1151
+      → handed after ≡ []
+  pub never : ((i : ℕ) → placeIn s before ≤ i → i + 1152 ≤ length (streamOf (before ++ after)) → locksAt (streamOf (before ++ after)) i ≡ false)
+      → handed after ≡ []
+  pub exact : (q k : ℕ) → FirstLock (streamOf (before ++ after)) (placeIn s before) q → 3 ≤ k
+      → q + 384 * k ≤ length (streamOf (before ++ after))
+      → ((j : ℕ) → j < k → inPlace (streamOf (before ++ after)) (q + 384 * j) ≡ true)
+      → take k (handed after) ≡ gotInARow (streamOf (before ++ after)) q (firstGot (handed before) (placeIn s before) q) k
+
+-- s is what `new` hands out
+abbrev pub demandCalls : Type 0
+demandCalls = (s : Synchroniser) → Valid s → view s ≡ start → (before after : List Call) → History s (before ++ after) → BeginsAt before → DemandCalls s before after

@@ -1,0 +1,448 @@
+// The synchroniser: dibits in, frames out.
+// Each push takes the state by value and hands back the next one beside the heads of its frames; envelopes and reliabilities go into the lent room.
+ghost use mathlib.Core.Path.{_≡_};
+ghost use mathlib.Core.Bool.{true, false};
+ghost use mathlib.Core.List.{[], _∷_};
+ghost use Prim.Native.Nat.{_+_, _/_, _^_, _<_, min};
+ghost use lib.IntN.{subℕ};
+ghost use lib.ListN.{length, getD, drop};
+ghost use Rattle.sync.specs.View.{Valid, view};
+ghost use Rattle.sync.specs.Answers.{PushedBy};
+ghost use Rattle.sync.specs.Feeds.{FedBy, fedOf, hardly, softly, unpacked, feedRules};
+ghost use Rattle.sync_rules.specs.State.{start, hard, pending, slips, netSlip};
+ghost use Rattle.sync_rules.specs.Demand.{demand3};
+ghost use Rattle.sync.specs.Statements.{callsFollow, demandCalls};
+ghost use Rattle.sync_rules.specs.Statements.{rules};
+use bits::Refusal;
+use sync_rules::Head;
+
+mod markers; // markers.rt: reading the ring of bits
+mod numbers; // numbers.rt: the numbers of a state
+mod room; // room.rt: writing a frame into the lent room
+mod frames; // frames.rt: one frame, and up to three of them
+mod pushes; // pushes.rt: a push into lent rings
+
+use numbers::Numbers;
+use pushes::push_into;
+
+// The answer to a push.
+pub enum Push {
+    Taken,
+    Refused(Refusal),
+}
+
+// The rings of held bits and of their reliabilities, and the numbers that say where in them the held bits lie.
+pub struct Synchroniser {
+    pub bits: [u8; 1155],
+    pub reliabilities: [u8; 1155],
+    pub numbers: Numbers,
+}
+
+// The answer, how many frames went out, their heads (zero behind them), and the next synchroniser.
+pub struct Pushed {
+    pub answer: Push,
+    pub count: usize,
+    pub heads: [Head; 3],
+    pub next: Synchroniser,
+}
+
+// How many dibits were taken, and the answer to the last push.
+pub struct Fed {
+    pub used: usize,
+    pub pushed: Pushed,
+}
+
+impl Synchroniser {
+    pub fn new() -> Self
+        ensures { λ r. ⌜ Valid r ⌝ }
+        ensures view { λ r. ⌜ view r ≡ start ⌝ }
+    {
+        let numbers = Numbers {
+            first: 0,
+            restorable: 0,
+            pending: 0,
+            taken: 0,
+            clock: 0,
+            later: 0,
+            earlier: 0,
+            frames: 0,
+            synchronised: 0,
+            failures: 0,
+            locked: false,
+            soft: false,
+        };
+        Synchroniser {
+            bits: [0u8; 1155],
+            reliabilities: [0u8; 1155],
+            numbers,
+        }
+    }
+
+    // A hard dibit.
+    pub fn push(self, dibit: u8, room: &mut [u8]) -> Pushed
+        requires { ⌜ Valid self ⌝ }
+        ensures { λ r. ⌜ PushedBy (now (room .entry)) (now (room .exit)) self (hard dibit) r ⌝ }
+    {
+        one_push(self, dibit, 255, 255, false, room)
+    }
+
+    // A dibit with the reliabilities of its two bits.
+    pub fn push_soft(self, dibit: u8, first: u8, second: u8, room: &mut [u8]) -> Pushed
+        requires { ⌜ Valid self ⌝ }
+        ensures { λ r. ⌜ PushedBy (now (room .entry)) (now (room .exit)) self (record { dibit = dibit; ofFirst = first; ofSecond = second; soft = true }) r ⌝ }
+    {
+        one_push(self, dibit, first, second, true, room)
+    }
+
+    // Hard dibits one after the other, up to the first that sends frames or is refused. `used` of them were taken: the caller goes on with the rest.
+    pub fn feed(self, dibits: &[u8], room: &mut [u8]) -> Fed
+        requires { ⌜ Valid self ⌝ }
+        ensures { λ r. ⌜ FedBy (now (room .entry)) (now (room .exit)) (fedOf (length (now (room .entry))) (hardly (now (dibits .entry))) (view self)) r ⌝ }
+    {
+        let mut bits = self.bits;
+        let mut reliabilities = self.reliabilities;
+        let mut numbers = self.numbers;
+        let mut used: usize = 0;
+        while used < dibits.len() {
+            let dibit = dibits[used];
+            let d = push_into(
+                &mut bits,
+                &mut reliabilities,
+                numbers,
+                dibit,
+                255,
+                255,
+                false,
+                &mut *room,
+            );
+            numbers = d.numbers;
+            used += d.took;
+            if d.stops {
+                let answer = d.answer;
+                let heads = d.heads;
+                let next = Synchroniser {
+                    bits,
+                    reliabilities,
+                    numbers,
+                };
+                let pushed = Pushed {
+                    answer,
+                    count: d.count,
+                    heads,
+                    next,
+                };
+                return Fed { used, pushed };
+            }
+        }
+        let none = Head {
+            offset: 0,
+            matched: false,
+            errors: 0,
+        };
+        let next = Synchroniser {
+            bits,
+            reliabilities,
+            numbers,
+        };
+        let pushed = Pushed {
+            answer: Push::Taken,
+            count: 0,
+            heads: [none; 3],
+            next,
+        };
+        Fed { used, pushed }
+    }
+
+    // The same with two reliabilities for each dibit, as far as both slices reach.
+    pub fn feed_soft(self, dibits: &[u8], reliable: &[u8], room: &mut [u8]) -> Fed
+        requires { ⌜ Valid self ⌝ }
+        ensures { λ r. ⌜ FedBy (now (room .entry)) (now (room .exit)) (fedOf (length (now (room .entry))) (softly (now (dibits .entry)) (now (reliable .entry))) (view self)) r ⌝ }
+    {
+        let most = both_reach(dibits.len(), reliable.len());
+        let mut bits = self.bits;
+        let mut reliabilities = self.reliabilities;
+        let mut numbers = self.numbers;
+        let mut used: usize = 0;
+        while used < most {
+            let dibit = dibits[used];
+            let first = reliable[2 * used];
+            let second = reliable[2 * used + 1];
+            let d = push_into(
+                &mut bits,
+                &mut reliabilities,
+                numbers,
+                dibit,
+                first,
+                second,
+                true,
+                &mut *room,
+            );
+            numbers = d.numbers;
+            used += d.took;
+            if d.stops {
+                let answer = d.answer;
+                let heads = d.heads;
+                let next = Synchroniser {
+                    bits,
+                    reliabilities,
+                    numbers,
+                };
+                let pushed = Pushed {
+                    answer,
+                    count: d.count,
+                    heads,
+                    next,
+                };
+                return Fed { used, pushed };
+            }
+        }
+        let none = Head {
+            offset: 0,
+            matched: false,
+            errors: 0,
+        };
+        let next = Synchroniser {
+            bits,
+            reliabilities,
+            numbers,
+        };
+        let pushed = Pushed {
+            answer: Push::Taken,
+            count: 0,
+            heads: [none; 3],
+            next,
+        };
+        Fed { used, pushed }
+    }
+
+    // Packed bytes, four dibits each, from dibit `start` on. A byte can be cut by a push that sends: the caller goes on with `start + used`.
+    pub fn feed_packed(self, bytes: &[u8], start: usize, room: &mut [u8]) -> Fed
+        requires { ⌜ Valid self ⌝ }
+        ensures { λ r. ⌜ FedBy (now (room .entry)) (now (room .exit)) (fedOf (length (now (room .entry))) (hardly (drop start (unpacked (now (bytes .entry))))) (view self)) r ⌝ }
+    {
+        let mut bits = self.bits;
+        let mut reliabilities = self.reliabilities;
+        let mut numbers = self.numbers;
+        let mut used: usize = 0;
+        let mut at: usize = start / 4;
+        while at < bytes.len() {
+            let dibit = dibit_of(bytes[at], (start % 4 + used) % 4);
+            let d = push_into(
+                &mut bits,
+                &mut reliabilities,
+                numbers,
+                dibit,
+                255,
+                255,
+                false,
+                &mut *room,
+            );
+            numbers = d.numbers;
+            used += d.took;
+            if d.stops {
+                let answer = d.answer;
+                let heads = d.heads;
+                let next = Synchroniser {
+                    bits,
+                    reliabilities,
+                    numbers,
+                };
+                let pushed = Pushed {
+                    answer,
+                    count: d.count,
+                    heads,
+                    next,
+                };
+                return Fed { used, pushed };
+            }
+            at = start / 4 + (start % 4 + used) / 4;
+        }
+        let none = Head {
+            offset: 0,
+            matched: false,
+            errors: 0,
+        };
+        let next = Synchroniser {
+            bits,
+            reliabilities,
+            numbers,
+        };
+        let pushed = Pushed {
+            answer: Push::Taken,
+            count: 0,
+            heads: [none; 3],
+            next,
+        };
+        Fed { used, pushed }
+    }
+
+    // Whether a lock is held.
+    pub fn locked(self) -> bool
+        ensures { λ r. ⌜ r ≡ view self .locked ⌝ }
+    {
+        let n = self.numbers;
+        n.locked
+    }
+
+    // Slips followed.
+    pub fn slips(self) -> u64
+        requires { ⌜ Valid self ⌝ }
+        ensures { λ r. ⌜ r ≡ slips (view self) ⌝ }
+    {
+        let n = self.numbers;
+        n.later + n.earlier
+    }
+
+    // The signed net slip: two bits for each slip to a later symbol, less two for each to an earlier one.
+    pub fn net_slip(self) -> i64
+        requires { ⌜ Valid self ⌝ }
+        ensures { λ r. ⌜ r ≡ netSlip (view self) ⌝ }
+    {
+        let n = self.numbers;
+        difference(2 * n.later, 2 * n.earlier)
+    }
+
+    // Frames sent.
+    pub fn frames(self) -> u64
+        ensures { λ r. ⌜ r ≡ view self .frames ⌝ }
+    {
+        let n = self.numbers;
+        n.frames
+    }
+
+    // Those of them that showed two markers.
+    pub fn synchronised_frames(self) -> u64
+        ensures { λ r. ⌜ r ≡ view self .synchronised ⌝ }
+    {
+        let n = self.numbers;
+        n.synchronised
+    }
+
+    // Bits pending.
+    pub fn pending_bits(self) -> usize
+        ensures { λ r. ⌜ r ≡ length (pending (view self)) ⌝ }
+    {
+        let n = self.numbers;
+        n.pending
+    }
+
+    // Dibits taken.
+    pub fn dibits_taken(self) -> u64
+        ensures { λ r. ⌜ r ≡ view self .taken ⌝ }
+    {
+        let n = self.numbers;
+        n.taken
+    }
+
+    // The offset below which no further frame goes out.
+    pub fn settled(self) -> u64
+        ensures { λ r. ⌜ r ≡ view self .clock ⌝ }
+    {
+        let n = self.numbers;
+        n.clock
+    }
+}
+
+// a - b, with its sign.
+fn difference(a: u64, b: u64) -> i64
+    requires { ⌜ a < 2 ^ 62 ⌝ ∗ ⌜ b < 2 ^ 62 ⌝ }
+    ensures { λ r. ⌜ r ≡ subℕ a b ⌝ }
+{
+    a as i64 - b as i64
+}
+
+// How many dibits have both their reliabilities.
+fn both_reach(dibits: usize, reliable: usize) -> usize
+    ensures { λ r. ⌜ r ≡ min dibits (reliable / 2) ⌝ }
+{
+    if reliable / 2 < dibits {
+        return reliable / 2;
+    }
+    dibits
+}
+
+// Dibit k of a byte, the highest first.
+fn dibit_of(byte: u8, k: usize) -> u8
+    requires { ⌜ k < 4 ⌝ }
+    ensures { λ r. ⌜ r ≡ getD (unpacked (byte ∷ [])) k 0 ⌝ }
+{
+    if k == 0 {
+        return byte / 64 % 4;
+    }
+    if k == 1 {
+        return byte / 16 % 4;
+    }
+    if k == 2 {
+        return byte / 4 % 4;
+    }
+    byte % 4
+}
+
+// One push.
+fn one_push(
+    s: Synchroniser,
+    dibit: u8,
+    first: u8,
+    second: u8,
+    soft: bool,
+    room: &mut [u8],
+) -> Pushed
+    requires { ⌜ Valid s ⌝ }
+    ensures { λ r. ⌜ PushedBy (now (room .entry)) (now (room .exit)) s (record { dibit = dibit; ofFirst = first; ofSecond = second; soft = soft }) r ⌝ }
+{
+    let mut bits = s.bits;
+    let mut reliabilities = s.reliabilities;
+    let d = push_into(
+        &mut bits,
+        &mut reliabilities,
+        s.numbers,
+        dibit,
+        first,
+        second,
+        soft,
+        room,
+    );
+    let answer = d.answer;
+    let numbers = d.numbers;
+    let heads = d.heads;
+    let next = Synchroniser {
+        bits,
+        reliabilities,
+        numbers,
+    };
+    Pushed {
+        answer,
+        count: d.count,
+        heads,
+        next,
+    }
+}
+
+// Demand 3 over any list of pushes.
+pub fn demand_three()
+    ensures { λ _. ⌜ demand3 ⌝ }
+{
+    sync_rules::demand_three();
+}
+
+// Document 01's statements, of every state that pushes reach.
+pub fn synchroniser_rules()
+    ensures { λ _. ⌜ rules ⌝ }
+{
+    sync_rules::synchroniser_rules();
+}
+
+// Any history of calls has the state and the frames of the rules' pushes.
+pub fn calls_follow_the_rules()
+    ensures { λ _. ⌜ callsFollow ⌝ }
+{}
+
+// Demand 3 over the calls: what any history of calls, refused ones among them, hands out.
+pub fn demand_three_of_calls()
+    ensures { λ _. ⌜ demandCalls ⌝ }
+{}
+
+// What a feed does, by the pushes that it makes: no frame is lost, and nothing is pushed twice.
+pub fn feed_is_pushes()
+    ensures { λ _. ⌜ feedRules ⌝ }
+{}

@@ -1,0 +1,10 @@
+pub mod Tests
+pub mod Windows
+pub mod Taken
+pub mod Lying
+pub mod Hunts
+pub mod Rides
+pub mod Demands
+pub mod Reaching
+pub mod Offsets
+pub mod Accounts

@@ -1,0 +1,90 @@
+-- A frame: when one is ready, how its front and its segments are found, what is said of it, and the state that it leaves.
+-- Assumes nothing.
+use mathlib.Core.List.{List, [], _++_}
+use mathlib.Core.Bool.{Bool, true, cond, _&&_, _||_}
+use Prim.Native.Nat.{ℕ, _+_}
+use lib.ListN.{length, take, drop}
+use lib.Dec.{leb, ltb, eqb}
+use Rattle.sync_rules.specs.Matching.{matches, errors, twoOf, inPlace}
+use Rattle.sync_rules.specs.Moves.{Move, Stay, Later, Earlier, moved, moveTo}
+use Rattle.sync_rules.specs.State.{State, pending, pass, restore, counted}
+
+pub record Frame : Type 0 where
+  pub offset : ℕ
+  pub matched : Bool
+  pub errors : ℕ
+  pub bits : List ℕ
+  pub reliabilities : List ℕ  -- empty before the first soft push
+
+-- locked, and 384 bits pending of a frame in place, 392 of one that is not
+unfoldable pub ready : State → Bool
+unfolding inPlace
+ready m = m .locked && (leb 384 (length (pending m)) && (inPlace (pending m) 0 || leb 392 (length (pending m))))
+
+-- the front move of a frame that is not in place: its first marker is in place, a symbol later, or a symbol earlier, where the two restorable bits begin
+unfoldable pub frontMove : State → Move
+unfolding matches
+frontMove m =
+    cond (matches (pending m) 0 0) Stay
+    (cond (matches (pending m) 2 0) Later
+    (cond (eqb (m .restorable) 2 && matches (m .held) 0 0) Earlier Stay))
+
+-- a front move made and counted
+unfoldable pub follow : Move → State → State
+unfolding pass restore counted
+follow Stay m = m
+follow Later m = counted Later (pass 2 m)
+follow Earlier m = counted Earlier (restore m)
+
+-- the shift at the second segment, and where that starts, behind the front
+unfoldable pub secondShift : State → Move
+unfolding moveTo
+secondShift m = moveTo (pending m) 128 1
+
+abbrev pub secondAt : State → ℕ
+secondAt m = moved (secondShift m) 128
+
+-- the further shift at the third segment, and where that starts, behind the front
+unfoldable pub thirdShift : State → Move
+unfolding moveTo secondShift moved
+thirdShift m = moveTo (pending m) (secondAt m + 128) 2
+
+abbrev pub thirdAt : State → ℕ
+thirdAt m = moved (thirdShift m) (secondAt m + 128)
+
+-- 384 elements in three segments of 128, the first from 0 and the others from p and q
+unfoldable pub cut : List ℕ → ℕ → ℕ → List ℕ
+cut xs p q = take 128 xs ++ (take 128 (drop p xs) ++ take 128 (drop q xs))
+
+-- what is said of the frame at the front whose second and third segment start at p and q
+unfoldable pub frameAt : State → ℕ → ℕ → Frame
+unfolding cut twoOf matches errors
+frameAt m p q =
+    let xs = pending m in
+    record { offset = m .clock; matched = twoOf (matches xs 0 0) (matches xs p 1) (matches xs q 2); errors = errors xs 0 0 + errors xs p 1 + errors xs q 2; bits = cut xs p q; reliabilities = cond (m .soft) (cut (drop (m .restorable) (m .reliabilities)) p q) [] }
+
+-- the state that a frame leaves whose third segment starts at q; lock ends with the third frame in a row that is not matched
+unfoldable pub leave : State → ℕ → Bool → State
+unfolding pass
+leave m q matched =
+    let n = pass (q + 128) m in
+    record { held = n .held; reliabilities = n .reliabilities; restorable = n .restorable; taken = m .taken; clock = m .clock + 384; later = m .later; earlier = m .earlier; frames = m .frames + 1; synchronised = m .synchronised + cond matched 1 0; failures = cond matched 0 (m .failures + 1); locked = cond matched true (ltb (m .failures + 1) 3); soft = m .soft }
+
+-- a frame, and the state that it leaves
+pub record Sent : Type 0 where
+  pub frame : Frame
+  pub next : State
+
+unfoldable pub sendAt : State → ℕ → ℕ → Sent
+unfolding frameAt leave
+sendAt m p q = record { frame = frameAt m p q; next = leave m q (frameAt m p q .matched) }
+
+-- a frame whose front was found, its two shifts counted
+unfoldable pub sendShifted : State → Sent
+unfolding secondShift thirdShift moved counted sendAt
+sendShifted m = sendAt (counted (thirdShift m) (counted (secondShift m) m)) (secondAt m) (thirdAt m)
+
+-- the frame at the front: as it is if its three markers are in place, else with its front and segments followed
+unfoldable pub send : State → Sent
+unfolding inPlace sendAt sendShifted follow frontMove
+send m = cond (inPlace (pending m) 0) (sendAt m 128 256) (sendShifted (follow (frontMove m) m))

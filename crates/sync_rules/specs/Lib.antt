@@ -1,0 +1,10 @@
+pub mod Matching
+pub mod Moves
+pub mod State
+pub mod Frames
+pub mod Pushes
+pub mod Room
+pub mod Demand
+pub mod Counts
+pub mod Statements
+pub mod Account

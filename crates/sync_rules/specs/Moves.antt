@@ -1,0 +1,34 @@
+-- A symbol more or less in the stream moves a marker by two bits: where a segment is found, and how slips are counted.
+-- Assumes nothing.
+use mathlib.Core.List.{List}
+use mathlib.Core.Bool.{cond}
+use Prim.Native.Nat.{ℕ, _+_, _-_}
+use Rattle.sync_rules.specs.Matching.{matches}
+
+-- where a segment starts: where it should, a symbol later, or a symbol earlier
+pub data Move : Type 0 where
+  Stay : Move
+  Later : Move
+  Earlier : Move
+
+-- the place a move leads to from place p
+unfoldable pub moved : Move → ℕ → ℕ
+moved Stay p = p
+moved Later p = p + 2
+moved Earlier p = p - 2
+
+-- how many moves to a later symbol it is, and to an earlier one
+unfoldable pub laters : Move → ℕ
+laters Stay = 0
+laters Later = 1
+laters Earlier = 0
+
+unfoldable pub earliers : Move → ℕ
+earliers Stay = 0
+earliers Later = 0
+earliers Earlier = 1
+
+-- the move to the marker of segment k, which should stand at place p: in place, else a symbol later, else a symbol earlier, else none
+unfoldable pub moveTo : List ℕ → ℕ → ℕ → Move
+unfolding matches
+moveTo xs p k = cond (matches xs p k) Stay (cond (matches xs (p + 2) k) Later (cond (matches xs (p - 2) k) Earlier Stay))

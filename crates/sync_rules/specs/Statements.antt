@@ -1,0 +1,61 @@
+-- What document 01, 'Synchroniser and merger', says of the synchroniser: of every state that pushes reach from the start.
+-- Assumes nothing.
+use mathlib.Core.Path.{_≡_}
+use mathlib.Core.List.{List, [], _∷_, _++_}
+use mathlib.Core.Bool.{true, false}
+use Prim.Native.Nat.{ℕ, suc, _+_, _*_, _≤_, _<_}
+use lib.IntN.{pos, _+ℤ_}
+use lib.ListN.{length, getD, drop}
+use Rattle.sync_rules.specs.State.{Input, start, pending, netSlip, bring}
+use Rattle.sync_rules.specs.Frames.{Frame}
+use Rattle.sync_rules.specs.Pushes.{search, drain, step}
+use Rattle.sync_rules.specs.Demand.{stream, Loses, placeOf, sentBy}
+use Rattle.sync_rules.specs.Counts.{stateAfter, searched, everSoft, offsets, grid, poor, lockSent, between, since, total}
+
+-- "Lock ends exactly with the third frame in a row, counted since that lock began, that has fewer than two markers":
+-- while it holds there are fewer than three, a push that ends it has made them three, and no frame of it goes out after three
+pub record LockRule (xs : List Input) (fs : List Frame) : Type 0 where
+  pub holds : stateAfter xs .locked ≡ true → poor 0 fs < 3
+  pub ends : (x : Input) → Loses x (stateAfter xs) → poor 0 (lockSent (xs ++ (x ∷ [])) start []) ≡ 3
+  pub before : (gs : List Frame) (f : Frame) (hs : List Frame) → fs ≡ gs ++ (f ∷ hs) → poor 0 gs < 3
+
+pub record Rules (xs : List Input) : Type 0 where
+  -- "After any push fewer than 392 bits are pending when locked, fewer than 1,152 when searching;
+  pub locked : stateAfter xs .locked ≡ true → length (pending (stateAfter xs)) < 392
+  pub searching : stateAfter xs .locked ≡ false → length (pending (stateAfter xs)) < 1152
+  -- at most 1,155 are held at any instant": once a push has brought its two, after its search, and after each of its frames
+  pub held : (x : Input) → (length (bring x (stateAfter xs) .held) ≤ 1155) × ((n : ℕ) → length (drain n (search (bring x (stateAfter xs))) .next .held) ≤ 1155)
+  -- the pending bits are the stream's last ones
+  pub place : (pending (stateAfter xs) ≡ drop (placeOf xs) (stream xs)) × (placeOf xs ≤ length (stream xs))
+  -- "The reported offset is bits passed in searches plus 384 per earlier frame": the clock, and the offsets of the frames of one more push
+  pub clock : stateAfter xs .clock ≡ searched xs start + 384 * length (sentBy [] xs)
+  pub offset : (x : Input) → let now = step x (stateAfter xs) .sent in offsets now ≡ grid (searched (xs ++ (x ∷ [])) start + 384 * length (sentBy [] xs)) (length now)
+  -- "bits pushed equal that clock plus the signed net slip plus bits pending"
+  pub balance : pos (length (stream xs)) ≡ pos (stateAfter xs .clock) +ℤ netSlip (stateAfter xs) +ℤ pos (length (pending (stateAfter xs)))
+  pub pushed : (length (stream xs) ≡ 2 * length xs) × (stateAfter xs .taken ≡ length xs) × (stateAfter xs .frames ≡ length (sentBy [] xs))
+  pub lock : LockRule xs (lockSent xs start [])
+  -- the soft mark is never cleared
+  pub soft : stateAfter xs .soft ≡ everSoft xs
+
+abbrev pub rules : Type 0
+rules = (xs : List Input) → Rules xs
+
+-- `settled` is the offset below which no further frame goes out: that of every frame of any further pushes ys is as high, and it never falls
+pub record Settled (xs ys : List Input) : Type 0 where
+  pub above : (i : ℕ) → i < length (sentBy xs ys) → stateAfter xs .clock ≤ getD (offsets (sentBy xs ys)) i 0
+  pub never-falls : stateAfter xs .clock ≤ stateAfter (xs ++ ys) .clock
+
+abbrev pub settledRule : Type 0
+settledRule = (xs ys : List Input) → Settled xs ys
+
+-- Offsets of successive frames differ by at least 384, and by exactly 384 plus the bits that searches passed between them:
+-- the journal's gap rule shows every bit that a search passed before a frame, and no other
+pub record Gaps (xs : List Input) : Type 0 where
+  pub as-many : length (between 0 xs start) ≡ length (sentBy [] xs)
+  pub first : 0 < length (sentBy [] xs) → getD (offsets (sentBy [] xs)) 0 0 ≡ getD (between 0 xs start) 0 0
+  pub next : (i : ℕ) → suc i < length (sentBy [] xs) → getD (offsets (sentBy [] xs)) (suc i) 0 ≡ getD (offsets (sentBy [] xs)) i 0 + 384 + getD (between 0 xs start) (suc i) 0
+  -- what searches passed is what they passed between frames, and since the last one
+  pub all : searched xs start ≡ total (between 0 xs start) + since 0 xs start
+
+abbrev pub gapRule : Type 0
+gapRule = (xs : List Input) → Gaps xs
