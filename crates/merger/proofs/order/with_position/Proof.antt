@@ -1,0 +1,85 @@
+use Rattle.merger.specs.declared.Position.{Position}
+use mathlib.Core.List.{List}
+use lib.ListN.{length-set}
+use Rattle.merger.proofs.Shift.{shifted, shift-none, shift-more, shift-all}
+use borrow.Author.Needs.{needs}
+use lib.ListN.{length, getD, set, take}
+use native.Mathlib.Omega.{arith}
+use Prim.Native.Nat.{ℕ, _+_, _-_, _<_, _≤_}
+use mathlib.Core.Path.{_≡_, refl, sym, ap, _∙_}
+use Rattle.merger.proofs.order.with_position.Statement.{statement}
+use Rattle.merger.proofs.order.with_position.Tie as tie
+
+abbrev Inv-loop : tie.InvT-loop
+Inv-loop n at positions out₀ j₀ out j = (at ≤ j) × (j ≤ n) × (out ≡ shifted out₀ positions at (j - at))
+
+abbrev μ-loop : tie.MeasureT-loop
+μ-loop n at positions out₀ j₀ out j = n - j
+
+mul-out : tie.Need-mul-out Inv-loop μ-loop
+mul-out c = search needs
+
+array-set-from-out : tie.Need-array-set-from-out Inv-loop μ-loop
+array-set-from-out c = search needs
+
+loop-holds : tie.Need-loop-holds Inv-loop μ-loop
+loop-holds c = (search needs, search needs, shift-none (set (c .args .t1) (c .args .at) (c .args .p)) (c .args .t1) (c .args .at))
+
+mul-out-2 : tie.Need-mul-out-2 Inv-loop μ-loop
+mul-out-2 c = search needs
+
+array-copy-out-out : tie.Need-array-copy-out-out Inv-loop μ-loop
+array-copy-out-out c = search needs
+
+add-out : tie.Need-add-out Inv-loop μ-loop
+add-out c = search needs
+
+mul-out-3 : tie.Need-mul-out-3 Inv-loop μ-loop
+mul-out-3 c = search needs
+
+array-set-from-out-2 : tie.Need-array-set-from-out-2 Inv-loop μ-loop
+array-set-from-out-2 c = search needs
+
+add-j : tie.Need-add-j Inv-loop μ-loop
+add-j c = search needs
+
+loop-less : tie.Need-loop-less Inv-loop μ-loop
+loop-less c = search needs
+
+loop-again : tie.Need-loop-again Inv-loop μ-loop
+loop-again c =
+    let at-loop = c .before .before in
+    let start = at-loop .before in
+    let l : List Position = start .args .t1 in
+    let len : length l ≡ 16 = start .good .0 .1 .0 .1 in
+    let b = set l (start .args .at) (start .args .p) in
+    let lb : length b ≡ length l = length-set l (start .args .at) (start .args .p) in
+    (search needs, search needs, ap (λ (z : List Position). set z (at-loop .loop .j + 1) (getD l (at-loop .loop .j) _)) (at-loop .loop .inv .2) ∙ shift-more b l (start .args .at) _ (at-loop .loop .j) lb (at-loop .loop .inv .0) (omega arith))
+
+returns : tie.Need-returns Inv-loop μ-loop
+returns c =
+    let start = c .before .before in
+    let l = start .args .t1 in
+    let len : length l ≡ 16 = start .good .0 .1 .0 .1 in
+    let e : c .before .loop .j ≡ start .args .n = omega arith in
+    let at = start .args .at in
+    ap (λ z. take (start .args .n + 1) z) (c .before .loop .inv .2 ∙ ap (λ i. shifted (set l at (start .args .p)) l at (i - at)) e) ∙ shift-all l at (start .args .p) (start .args .n) (start .pre .0) (omega arith)
+
+pub with-position-spec : {M : Type 1} → statement M
+with-position-spec =
+    tie.close
+    (tie.spec
+    Inv-loop
+    μ-loop
+    mul-out
+    array-set-from-out
+    loop-holds
+    mul-out-2
+    array-copy-out-out
+    add-out
+    mul-out-3
+    array-set-from-out-2
+    add-j
+    loop-less
+    loop-again
+    returns)

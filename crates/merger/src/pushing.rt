@@ -1,0 +1,90 @@
+// A frame that is neither refused nor late: into the position that it belongs to, or into a new one.
+ghost use mathlib.Core.Path.{_≡_};
+ghost use Prim.Native.Nat.{_^_, _≤_, _<_};
+ghost use lib.ListN.{take, getD};
+ghost use Rattle.merger.specs.Merging.{viewOf, noPosition, joinOf, openOf, putOf};
+ghost use Rattle.merger.specs.States.{IsNear, Nowhere, Valid, PushGave, belowOf};
+use crate::AfterPush;
+use crate::Held;
+use crate::Merger;
+use crate::Pushed;
+use crate::order::below;
+use crate::order::with_position;
+use crate::positions::is_taken;
+use crate::positions::opened;
+use crate::positions::with_frame;
+use bits::Refusal;
+
+// The frame belongs to the position at a place.
+pub fn join(m: Merger, at: usize, stream: usize, h: Held) -> AfterPush
+    requires { ⌜ Valid m ⌝ ∗ ⌜ at < m .n ⌝ ∗ ⌜ IsNear (h .figures .offset) (getD (m .positions) at noPosition .key) ⌝ ∗ ⌜ h .figures .offset ≤ 2 ^ 42 ⌝ }
+    ensures { λ r. ⌜ PushGave (joinOf stream h (viewOf m) at) r ⌝ }
+{
+    let positions = m.positions;
+    let last = m.last;
+    let n = m.n;
+    let p = positions[at];
+    if is_taken(p, stream) {
+        return AfterPush {
+            answer: Pushed::Double,
+            merger: m,
+        };
+    }
+    let q = with_frame(p, stream, h);
+    let mut next = positions;
+    next[at] = q;
+    AfterPush {
+        answer: Pushed::Kept,
+        merger: Merger {
+            n: n,
+            positions: next,
+            last: last,
+        },
+    }
+}
+
+// The frame belongs to none: a new position at its place in the order.
+pub fn open(m: Merger, at: usize, stream: usize, h: Held) -> AfterPush
+    requires { ⌜ Valid m ⌝ ∗ ⌜ at ≡ belowOf (h .figures .offset) (take (m .n) (m .positions)) ⌝ ∗ ⌜ Nowhere (h .figures .offset) (take (m .n) (m .positions)) ⌝ ∗ ⌜ at ≤ m .n ⌝ ∗ ⌜ h .figures .offset ≤ 2 ^ 42 ⌝ }
+    ensures { λ r. ⌜ PushGave (openOf stream h (viewOf m) at) r ⌝ }
+{
+    let n = m.n;
+    if 16 <= n {
+        return AfterPush {
+            answer: Pushed::Refused(Refusal::Positions),
+            merger: m,
+        };
+    }
+    let positions = m.positions;
+    let last = m.last;
+    let p = opened(stream, h);
+    let next = with_position(positions, n, at, p);
+    let more = n + 1;
+    AfterPush {
+        answer: Pushed::Kept,
+        merger: Merger {
+            n: more,
+            positions: next,
+            last: last,
+        },
+    }
+}
+
+// One search serves for both: the first position that does not lie below the frame is its own, or the one that a new position goes before.
+pub fn put(m: Merger, stream: usize, h: Held) -> AfterPush
+    requires { ⌜ Valid m ⌝ ∗ ⌜ h .figures .offset ≤ 2 ^ 42 ⌝ }
+    ensures { λ r. ⌜ PushGave (putOf stream h (viewOf m)) r ⌝ }
+{
+    let n = m.n;
+    let positions = m.positions;
+    let offset = h.figures.offset;
+    let at = below(positions, n, offset);
+    if n <= at {
+        return open(m, at, stream, h);
+    }
+    let key = positions[at].key;
+    if offset + 191 < key {
+        return open(m, at, stream, h);
+    }
+    join(m, at, stream, h)
+}

@@ -1,0 +1,77 @@
+// A position that is ready: taken out, and its chosen frame handed on or passed over.
+ghost use mathlib.Core.Path.{_≡_};
+ghost use Prim.Native.Nat.{_<_};
+ghost use lib.ListN.{take, drop};
+ghost use Rattle.merger.specs.Merging.{view, viewOf, settle};
+ghost use Rattle.merger.specs.States.{FairChoice, Valid, ReleaseGave};
+use crate::AfterRelease;
+use crate::Choice;
+use crate::Clock;
+use crate::Freed;
+use crate::Merger;
+use crate::Release;
+use crate::Released;
+use crate::clocks::after;
+use crate::clocks::snap;
+use crate::order::without_first;
+use sync_rules::Head;
+
+// The merger without its first position.
+pub fn first_out(m: Merger) -> Merger
+    requires { ⌜ Valid m ⌝ ∗ ⌜ 0 < m .n ⌝ }
+    ensures { λ r. ⌜ (viewOf r ≡ view (drop 1 (take (m .n) (m .positions))) (m .last)) × Valid r ⌝ }
+{
+    let n = m.n;
+    let positions = m.positions;
+    let last = m.last;
+    let rest = without_first(positions, n);
+    let fewer = n - 1;
+    Merger {
+        n: fewer,
+        positions: rest,
+        last: last,
+    }
+}
+
+// What becomes of the chosen frame of a position that was taken out of the merger.
+pub fn give(m: Merger, c: Choice, freed: Freed) -> AfterRelease
+    requires { ⌜ Valid m ⌝ ∗ ⌜ FairChoice c ⌝ }
+    ensures { λ r. ⌜ ReleaseGave (settle c freed (take (m .n) (m .positions)) (m .last)) r ⌝ }
+{
+    let Choice::Chosen(h, other) = c else {
+        return AfterRelease {
+            answer: Released::PassedOver,
+            freed: freed,
+            merger: m,
+        };
+    };
+    let last = m.last;
+    let f = h.figures;
+    let to = snap(last, f.offset);
+    if after(last, to) {
+        let n = m.n;
+        let positions = m.positions;
+        return AfterRelease {
+            answer: Released::Frame(Release {
+                figures: Head {
+                    offset: to,
+                    matched: f.matched,
+                    errors: f.errors,
+                },
+                number: h.number,
+                alternate: other,
+            }),
+            freed: freed,
+            merger: Merger {
+                n: n,
+                positions: positions,
+                last: Clock::At(to),
+            },
+        };
+    }
+    AfterRelease {
+        answer: Released::PassedOver,
+        freed: freed,
+        merger: m,
+    }
+}
