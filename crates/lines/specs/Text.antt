@@ -1,0 +1,51 @@
+-- The text of each line, in ASCII.
+-- Assumes nothing.
+use mathlib.Core.Bool.{Bool, cond}
+use mathlib.Core.List.{List, [], _∷_, _++_}
+use Prim.Native.Nat.{ℕ, _-_, _/_, _%_}
+use lib.Dec.{ltb}
+use lib.ListN.{length, replicate, getD}
+use Rattle.io.specs.Digits.{glyph}
+use Rattle.bits.specs.Bit.{tab}
+use Rattle.journal.specs.Record.{bitOf}
+use Rattle.lines.specs.declared.Line.{Line}
+use Rattle.lines.specs.Decimal.{decimal}
+
+-- the line that has this text
+unfoldable pub lineOf : List ℕ → Line
+lineOf t = record { size = length t; bytes = t ++ replicate (128 - length t) 0 }
+
+-- a number behind a space
+abbrev pub spaced : ℕ → List ℕ
+spaced n = 32 ∷ decimal n
+
+abbrev pub lineFeed : List ℕ
+lineFeed = 10 ∷ []
+
+-- "frame lines being offset, matched, errors"
+abbrev pub frameWords : ℕ → Bool → ℕ → List ℕ
+frameWords offset matched errors = (102 ∷ 114 ∷ 97 ∷ 109 ∷ 101 ∷ []) ++ spaced offset ++ spaced (bitOf matched) ++ spaced errors
+
+abbrev pub frameText : ℕ → Bool → ℕ → List ℕ
+frameText offset matched errors = frameWords offset matched errors ++ lineFeed
+
+-- "A gap prints `gap`, offset, length"
+abbrev pub gapText : ℕ → ℕ → List ℕ
+gapText offset long = (103 ∷ 97 ∷ 112 ∷ []) ++ spaced offset ++ spaced long ++ lineFeed
+
+-- "the last line frames, slips, pending bits"
+abbrev pub endText : ℕ → ℕ → ℕ → List ℕ
+endText a b c = (101 ∷ 110 ∷ 100 ∷ []) ++ spaced a ++ spaced b ++ spaced c ++ lineFeed
+
+-- `refused` and two numbers: of a record, the refusal's number and the record's; of a frame that is no speech, its offset and the refusal's number
+abbrev pub refusedText : ℕ → ℕ → List ℕ
+refusedText first second = (114 ∷ 101 ∷ 102 ∷ 117 ∷ 115 ∷ 101 ∷ 100 ∷ []) ++ spaced first ++ spaced second ++ lineFeed
+
+-- digit i of a payload in hexadecimal: two digits a byte, the high half first
+abbrev pub hexAt : List ℕ → ℕ → ℕ
+hexAt payload i = glyph (cond (ltb (i % 2) 1) (getD payload (i / 2) 0 / 16) (getD payload (i / 2) 0 % 16))
+
+-- `speech`, the frame's offset, its corrected bits, and its payload in 40 digits
+abbrev pub speechText : ℕ → ℕ → List ℕ → List ℕ
+speechText offset corrected payload =
+    (115 ∷ 112 ∷ 101 ∷ 101 ∷ 99 ∷ 104 ∷ []) ++ spaced offset ++ spaced corrected ++ (32 ∷ []) ++ tab 40 (hexAt payload) ++ lineFeed
