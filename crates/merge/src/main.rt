@@ -1,0 +1,34 @@
+// Merges two packed recordings of the same time, and writes the journal of the merged frames to standard output: merge TABLE PRIMARY ALTERNATE.
+
+// The file that argument i names, open; or what is missing, on standard error, and a negative number.
+fn open_argument(i: usize) -> i32 {
+    let mut name = io::buffer();
+    let n = os::arg(i, &mut name);
+    let fd = os::open_read(&name[..n]);
+    if fd < 0 {
+        io::write_all(2, b"cannot read ");
+        io::write_all(2, &name[..n]);
+        io::write_all(2, b"\n");
+    }
+    fd
+}
+
+fn main() {
+    if os::arg_count() < 4 {
+        io::write_all(2, b"usage: merge TABLE PRIMARY ALTERNATE\n");
+        return;
+    }
+    let mut table = [0u8; 188];
+    if !table_file::from_argument(1, &mut table) {
+        return;
+    }
+    let primary = open_argument(2);
+    if primary < 0 {
+        return;
+    }
+    let alternate = open_argument(3);
+    if alternate < 0 {
+        return;
+    }
+    merging::merge(&table, primary, alternate);
+}

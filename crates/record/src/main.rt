@@ -1,0 +1,12 @@
+// Writes the journal of the frames in packed dibits on standard input to standard output: record [TABLE].
+// With a table each frame is decoded, and its record says whether it was accepted; without one the frames are untried.
+fn main() {
+    if os::arg_count() < 2 {
+        tasks::record(0);
+        return;
+    }
+    let mut table = [0u8; 188];
+    if table_file::from_argument(1, &mut table) {
+        tasks::record_decoded(0, &table);
+    }
+}
