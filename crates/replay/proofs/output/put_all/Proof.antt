@@ -1,0 +1,27 @@
+-- `put_all` ends: a turn for each byte.
+-- Assumes nothing.
+use Prim.Native.Nat.{_-_, _≤_}
+use lib.ListN.{length}
+use borrow.Author.Needs.{needs}
+use Rattle.replay.proofs.output.put_all.Statement.{statement}
+use Rattle.replay.proofs.output.put_all.Tie as tie
+
+abbrev Inv-loop : tie.InvT-loop
+Inv-loop out₀ at bytes to₀ i₀ out to i = i ≤ length bytes
+
+abbrev μ-loop : tie.MeasureT-loop
+μ-loop out₀ at bytes to₀ i₀ out to i = length bytes - i
+
+pub put-all-spec : {M : Type 1} → statement M
+put-all-spec =
+    tie.close
+    (tie.spec
+    Inv-loop
+    μ-loop
+    (λ c. search needs)
+    (λ c. search needs)
+    (λ c κs. search needs)
+    (λ c. search needs)
+    (λ c. search needs)
+    (λ c. search needs)
+    (λ c. search needs))

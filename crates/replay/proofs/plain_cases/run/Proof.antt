@@ -1,0 +1,33 @@
+-- `run` ends: the turns are counted down.
+-- Assumes nothing.
+use mathlib.Core.Path.{_≡_}
+use borrow.Author.Needs.{needs}
+use Rattle.replay.proofs.plain_cases.run.Statement.{statement}
+use Rattle.replay.proofs.plain_cases.run.Tie as tie
+
+abbrev Inv-loop : tie.InvT-loop
+Inv-loop window out₀ t₀ turns₀ out t turns = turns ≡ turns
+
+abbrev μ-loop : tie.MeasureT-loop
+μ-loop window out₀ t₀ turns₀ out t turns = turns
+
+pub run-spec : {M : Type 1} → statement M
+run-spec =
+    tie.close
+    (tie.spec
+    Inv-loop
+    μ-loop
+    (λ c. search needs)
+    (λ c. search needs)
+    (λ c κs. search needs)
+    (λ c. search needs)
+    (λ c κs. search needs)
+    (λ c. search needs)
+    (λ c. search needs)
+    (λ c. search needs)
+    (λ c. search needs)
+    (λ c κs. search needs)
+    (λ c κs. search needs)
+    (λ c. search needs)
+    (λ c. search needs)
+    (λ c. search needs))

@@ -1,0 +1,29 @@
+-- `put_frames` ends: three turns.
+-- Assumes nothing.
+use Prim.Native.Nat.{_-_, _≤_}
+use native.Mathlib.Omega.{arith}
+use borrow.Author.Needs.{needs}
+use Rattle.replay.proofs.sync_cases.put_frames.Statement.{statement}
+use Rattle.replay.proofs.sync_cases.put_frames.Tie as tie
+
+abbrev Inv-loop : tie.InvT-loop
+Inv-loop out₀ to count room soft heads length₀ k₀ out length k = k ≤ 3
+
+abbrev μ-loop : tie.MeasureT-loop
+μ-loop out₀ to count room soft heads length₀ k₀ out length k = 3 - k
+
+pub put-frames-spec : {M : Type 1} → statement M
+put-frames-spec =
+    tie.close
+    (tie.spec
+    Inv-loop
+    μ-loop
+    (λ c κs. search needs)
+    (λ c. search needs)
+    (λ c. search needs)
+    (λ c. search needs)
+    (λ c κs. search needs)
+    (λ c. search needs)
+    (λ c. search needs)
+    (λ c. search needs)
+    (λ c. search needs))
