@@ -15,7 +15,9 @@ use Rattle.field.proofs.Laws.{product-comm, product-one-r, product-assoc, no-ze
 use Rattle.field.proofs.Products.{product-lt, product-xor, power-lt}
 use Rattle.bits.proofs.Xor.{xor-assoc}
 use Rattle.algebra.proofs.Fields.{Field}
-use Rattle.algebra.proofs.Vandermonde.{All, all-map, Distinct, Apart, moment}
+use Rattle.bits.specs.Alls.{All}
+use Rattle.bits.proofs.Alls.{all-map}
+use Rattle.algebra.proofs.Vandermonde.{Distinct, Apart, moment}
 use Rattle.algebra.proofs.Word.{places, supp, minimum}
 
 abbrev pub Byte : Type 0

@@ -7,7 +7,9 @@ use Prim.Native.Nat.{ℕ, zero, _+_, _*_, _-_, _<_, _≤_}
 use native.Mathlib.Omega.{arith}
 use lib.ListN.{length}
 use Rattle.algebra.proofs.Fields.{Field, ⊗-zero, zero-⊗, ⊗-comm}
-use Rattle.algebra.proofs.Vandermonde.{All, all-map2, Distinct, pow, moment}
+use Rattle.bits.specs.Alls.{All}
+use Rattle.bits.proofs.Alls.{all-map2}
+use Rattle.algebra.proofs.Vandermonde.{Distinct, pow, moment}
 use Rattle.algebra.proofs.Polynomial.{eval, DegLe}
 use Rattle.algebra.proofs.Massey.{conv, live, pow-live}
 use Rattle.algebra.proofs.Locate.{State, run, inv-run, Located}

@@ -7,7 +7,9 @@ use native.Mathlib.Nat.{le-of-suc-le-suc, not-suc-le-zero}
 use native.Mathlib.Decide.{decLt, ℕ-discrete}
 use native.Mathlib.Omega.{arith}
 use Rattle.algebra.proofs.Fields.{Field, ring, same, ⊗-zero, zero-⊗, ⊗-assoc, ⊕-zero, ⊕-self, zero-⊕, add-⊗, ⊗-one, one-⊗}
-use Rattle.algebra.proofs.Vandermonde.{All, all-map, sum, sum-eq, sum-ext, sum-zero, sum-add, sum-mul}
+use Rattle.bits.specs.Alls.{All}
+use Rattle.bits.proofs.Alls.{all-map}
+use Rattle.algebra.proofs.Vandermonde.{sum, sum-eq, sum-ext, sum-zero, sum-add, sum-mul}
 use Rattle.algebra.proofs.Word.{places, all-below}
 
 module _ (K : Field) where

@@ -8,7 +8,8 @@ use native.Mathlib.Decide.{decLt}
 use native.Mathlib.Omega.{arith}
 use lib.ListN.{length, getD, replicate, length-replicate}
 use Rattle.algebra.proofs.Fields.{Field, ring, same, ⊗-zero, zero-⊗, ⊕-zero, ⊕-self, zero-⊕, ⊗-one}
-use Rattle.algebra.proofs.Vandermonde.{All, Distinct, pow, sum, moment}
+use Rattle.bits.specs.Alls.{All}
+use Rattle.algebra.proofs.Vandermonde.{Distinct, pow, sum, moment}
 use Rattle.algebra.proofs.Polynomial.{eval, eval-zeros, Zeros, DegLe, deg-mono, upd, length-upd, deg-upd, eval-upd}
 use Rattle.algebra.proofs.Massey.{conv, conv-moment, distinct-Z, moment-shift}
 use Rattle.algebra.proofs.Locate.{run, inv-run, Located, locates, too-few}

@@ -9,7 +9,9 @@ use native.Mathlib.Omega.{arith}
 use lib.ListN.{length, take, getD, replicate, length-replicate}
 use lib.Seq.{length-take-le}
 use Rattle.algebra.proofs.Fields.{Field}
-use Rattle.algebra.proofs.Vandermonde.{All, all-map, all-map2, Distinct, moment}
+use Rattle.bits.specs.Alls.{All}
+use Rattle.bits.proofs.Alls.{all-map, all-map2}
+use Rattle.algebra.proofs.Vandermonde.{Distinct, moment}
 use Rattle.algebra.proofs.Polynomial.{eval, Zeros, roots, DegLe, deg-mono, eval-take, upd}
 use Rattle.algebra.proofs.Massey.{conv, conv-moment, Inv, keep, stay, grow, vander-from, distinct-Z}
 

@@ -8,7 +8,9 @@ use native.Mathlib.Decide.{decLe, ℕ-discrete}
 use native.Mathlib.Omega.{arith}
 use lib.ListN.{length, getD}
 use Rattle.algebra.proofs.Fields.{Field, ring, ⊗-zero, zero-⊗, ⊗-comm, ⊗-assoc, ⊕-self, ⊗-one, one-⊗}
-use Rattle.algebra.proofs.Vandermonde.{All, all-map, Distinct, pow, sum, sum-eq, sum-zero, sum-add, sum-mul, moment, vander}
+use Rattle.bits.specs.Alls.{All}
+use Rattle.bits.proofs.Alls.{all-map}
+use Rattle.algebra.proofs.Vandermonde.{Distinct, pow, sum, sum-eq, sum-zero, sum-add, sum-mul, moment, vander}
 use Rattle.algebra.proofs.Polynomial.{eval, eval-zeros, DegLe, deg-mono, upd, length-upd, eval-upd, deg-upd}
 
 module _ (K : Field) where

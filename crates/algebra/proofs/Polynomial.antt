@@ -7,7 +7,9 @@ use native.Mathlib.Nat.{le-of-suc-le-suc, not-suc-le-zero}
 use native.Mathlib.Omega.{arith}
 use lib.ListN.{length, take}
 use Rattle.algebra.proofs.Fields.{Field, ring, same, ⊗-zero, ⊕-zero, ⊕-self}
-use Rattle.algebra.proofs.Vandermonde.{All, all-map2, Distinct, pow}
+use Rattle.bits.specs.Alls.{All}
+use Rattle.bits.proofs.Alls.{all-map2}
+use Rattle.algebra.proofs.Vandermonde.{Distinct, pow}
 
 module _ (K : Field) where
   open Field K using (F, _⊕_, _⊗_, 𝟘, 𝟙)

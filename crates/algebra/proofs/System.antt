@@ -6,7 +6,9 @@ use Prim.Native.Nat.{ℕ, zero, suc, _<_}
 use native.Mathlib.Nat.{le-of-suc-le-suc, not-suc-le-zero}
 use lib.ListN.{length, getD, length-map}
 use Rattle.algebra.proofs.Fields.{Field, ⊗-zero, ⊗-comm, ⊕-assoc, ⊕-zero, ⊕-self, zero-⊕, ⊗-one}
-use Rattle.algebra.proofs.Vandermonde.{All, all-map, Distinct, pow, sum, sum-ext, moment, vander}
+use Rattle.bits.specs.Alls.{All}
+use Rattle.bits.proofs.Alls.{all-map}
+use Rattle.algebra.proofs.Vandermonde.{Distinct, pow, sum, sum-ext, moment, vander}
 use Rattle.algebra.proofs.Word.{places, all-suc, all-below}
 use Rattle.algebra.proofs.Elimination.{Mat, dot, Solves, sum-suc}
 

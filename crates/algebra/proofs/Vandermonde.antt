@@ -5,19 +5,9 @@ use mathlib.Core.List.{List, [], _∷_}
 use Prim.Native.Nat.{ℕ, zero, suc, _<_}
 use native.Mathlib.Omega.{arith}
 use lib.ListN.{length}
+use Rattle.bits.specs.Alls.{All}
+use Rattle.bits.proofs.Alls.{all-map, all-map2}
 use Rattle.algebra.proofs.Fields.{Field, ring, same, ⊗-zero, zero-⊗, ⊕-zero, ⊕-self, ⊗-add, ⊗-one}
-
-abbrev pub All {ℓ} : {P : Type ℓ} → (P → Type 0) → List P → Type 0
-All Q [] = Unit {0}
-All Q (p ∷ ps) = Q p × All Q ps
-
-pub all-map {ℓ} : {P : Type ℓ} {Q R : P → Type 0} → ((p : P) → Q p → R p) → (ps : List P) → All Q ps → All R ps
-all-map f [] h = tt
-all-map f (p ∷ ps) h = (f p (h .0), all-map f ps (h .1))
-
-pub all-map2 {ℓ} : {P : Type ℓ} {Q R S : P → Type 0} → ((p : P) → Q p → R p → S p) → (ps : List P) → All Q ps → All R ps → All S ps
-all-map2 f [] h g = tt
-all-map2 f (p ∷ ps) h g = (f p (h .0) (g .0), all-map2 f ps (h .1) (g .1))
 
 module _ (K : Field) where
   open Field K using (F, _⊕_, _⊗_, 𝟘, 𝟙)

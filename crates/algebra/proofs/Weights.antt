@@ -7,7 +7,8 @@ use native.Mathlib.Nat.{not-suc-le-zero}
 use native.Mathlib.Omega.{arith}
 use lib.ListN.{length}
 use Rattle.algebra.proofs.Fields.{Field, ring, same, ⊕-self, ⊗-one}
-use Rattle.algebra.proofs.Vandermonde.{all-map, Distinct, pow, sum, sum-eq, sum-ext, moment, moment-fold}
+use Rattle.bits.proofs.Alls.{all-map}
+use Rattle.algebra.proofs.Vandermonde.{Distinct, pow, sum, sum-eq, sum-ext, moment, moment-fold}
 
 module _ (K : Field) where
   open Field K using (F, _⊕_, _⊗_, 𝟘, 𝟙)

@@ -7,7 +7,9 @@ use Prim.Native.Nat.{ℕ, zero, suc, _+_, _*_, _-_, _<_, _≤_}
 use native.Mathlib.Omega.{arith}
 use lib.ListN.{length, getD}
 use Rattle.algebra.proofs.Fields.{Field, ring, same, zero-⊗, ⊕-zero, ⊕-self, zero-⊕, add-⊗, ⊗-one, one-⊗}
-use Rattle.algebra.proofs.Vandermonde.{All, all-map, Distinct, pow, sum, sum-eq, sum-add, moment, vander}
+use Rattle.bits.specs.Alls.{All}
+use Rattle.bits.proofs.Alls.{all-map}
+use Rattle.algebra.proofs.Vandermonde.{Distinct, pow, sum, sum-eq, sum-add, moment, vander}
 
 -- the places of a word of n bytes
 abbrev pub places : ℕ → List ℕ

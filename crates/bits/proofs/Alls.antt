@@ -1,4 +1,4 @@
--- What holds of each element of a list: of one by its place, of a list with one replaced, and what follows of each.
+-- What holds of each element of a list: of one by its place, of a list with one replaced, and what follows of one or of two such.
 -- Assumes nothing.
 use mathlib.Core.List.{List, [], _∷_}
 use Prim.Native.Nat.{ℕ, zero, suc, _<_}
@@ -17,6 +17,10 @@ module _ {A : Type 0} (P : A → Type 0) where
   all-set (x ∷ xs) zero q f g = (g, f .1)
   all-set (x ∷ xs) (suc i) q f g = (f .0, all-set xs i q (f .1) g)
 
-  pub all-so : (Q : A → Type 0) → ((x : A) → P x → Q x) → (l : List A) → All P l → All Q l
-  all-so Q k [] f = tt
-  all-so Q k (x ∷ xs) f = (k x (f .0), all-so Q k xs (f .1))
+pub all-map {ℓ} : {P : Type ℓ} {Q R : P → Type 0} → ((p : P) → Q p → R p) → (ps : List P) → All Q ps → All R ps
+all-map f [] h = tt
+all-map f (p ∷ ps) h = (f p (h .0), all-map f ps (h .1))
+
+pub all-map2 {ℓ} : {P : Type ℓ} {Q R S : P → Type 0} → ((p : P) → Q p → R p → S p) → (ps : List P) → All Q ps → All R ps → All S ps
+all-map2 f [] h g = tt
+all-map2 f (p ∷ ps) h g = (f p (h .0) (g .0), all-map2 f ps (h .1) (g .1))

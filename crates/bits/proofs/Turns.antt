@@ -7,7 +7,7 @@ use Prim.Native.Nat.{ℕ, zero, suc, _+_, _-_, _*_, _<_, _≤_}
 use native.Mathlib.Nat.{add-zero, zero-add, not-suc-le-zero, le-of-suc-le-suc, eq-or-lt-of-le}
 use native.Mathlib.Omega.{arith}
 use Rattle.bits.specs.Bit.{number, sum}
-use Rattle.bits.proofs.Computed.{allBelow}
+use Rattle.bits.specs.Alls.{allBelow}
 use Rattle.bits.proofs.Digits.{number-down, number-small, number-ext}
 use Rattle.bits.proofs.Sums.{sum-add}
 
@@ -42,14 +42,11 @@ pub all-true : (n : ℕ) (f : ℕ → Bool) → ((k : ℕ) → k < n → f k ≡
 all-true zero f h = refl
 all-true (suc n) f h = rw (h n (omega arith)) (all-true n f (λ k l. h k (omega arith)))
 
-and-false : (b : Bool) → false ≡ b && false
-and-false true = refl
-and-false false = refl
+one-more : (n : ℕ) (f : ℕ → Bool) → f n && allBelow n f ≡ allBelow (n + 1) f
+one-more n f = let e : suc n ≡ n + 1 = omega arith in ap (λ (m : ℕ). allBelow m f) e
 
-pub some-false : (n : ℕ) (f : ℕ → Bool) (k : ℕ) → k < n → f k ≡ false → false ≡ allBelow n f
-some-false zero f k h e = absurd (not-suc-le-zero h)
-some-false (suc n) f k h e =
-    ⊎-elim
-    (λ (q : k ≡ n). rw (ap f (sym q) ∙ e) refl)
-    (λ (l : k < n). rw (← some-false n f k l e) (and-false (f n)))
-    (eq-or-lt-of-le (le-of-suc-le-suc h))
+pub all-passed : (f : ℕ → Bool) (n : ℕ) {b : Bool} → b ≡ allBelow n f → f n ≡ true → b ≡ allBelow (n + 1) f
+all-passed f n e h = e ∙ ap (λ (x : Bool). x && allBelow n f) (sym h) ∙ one-more n f
+
+pub all-failed : (f : ℕ → Bool) (n : ℕ) → f n ≡ false → false ≡ allBelow (n + 1) f
+all-failed f n h = ap (λ (x : Bool). x && allBelow n f) (sym h) ∙ one-more n f

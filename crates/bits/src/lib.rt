@@ -1,8 +1,7 @@
 // What every other crate uses: the numbered refusals, and bits of bytes. The definitions are in specs/, their laws in proofs/.
 ghost use mathlib.Core.Path.{_≡_};
-ghost use Prim.Native.Nat.{_*_, _<_, _≤_};
-ghost use lib.ListN.{length};
-ghost use Rattle.bits.specs.Bit.{bitLo, tab};
+ghost use Prim.Native.Nat.{_<_};
+ghost use Rattle.bits.specs.BigEndian.{bigEndian};
 ghost use Rattle.bits.specs.Refusals.{numberOf};
 
 // Document 01's twelve refusals, in the order of their numbers.
@@ -61,10 +60,25 @@ pub fn byte(x: u8) -> u8
     x
 }
 
-// Bit i of a slice of bytes, lowest bit first in its byte.
-pub fn bit(bytes: &[u8], i: usize) -> u8
-    requires { ⌜ i < 8 * length (now bytes) ⌝ }
-    ensures { λ r. ⌜ r ≡ bitLo (now (bytes .entry)) i ⌝ }
+// x in eight bytes, high byte first.
+pub fn bytes_of(x: u64) -> [u8; 8]
+    ensures { λ r. ⌜ r ≡ bigEndian 8 x ⌝ }
 {
-    (bytes[i / 8] >> (i % 8)) % 2
+    let x1 = x / 256;
+    let x2 = x1 / 256;
+    let x3 = x2 / 256;
+    let x4 = x3 / 256;
+    let x5 = x4 / 256;
+    let x6 = x5 / 256;
+    let x7 = x6 / 256;
+    [
+        (x7 % 256) as u8,
+        (x6 % 256) as u8,
+        (x5 % 256) as u8,
+        (x4 % 256) as u8,
+        (x3 % 256) as u8,
+        (x2 % 256) as u8,
+        (x1 % 256) as u8,
+        (x % 256) as u8,
+    ]
 }

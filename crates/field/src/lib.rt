@@ -2,7 +2,7 @@
 // A constant is stored anew at each use. So each call has a form `.._by` to which its caller lends the tables: a caller with many
 // products makes them once. Both forms promise the same.
 ghost use mathlib.Core.Path.{_≡_};
-ghost use Prim.Native.Nat.{_<_};
+ghost use Prim.Native.Nat.{_<_, _≤_};
 ghost use Rattle.field.specs.Field.{product, quotient, power, Log, Powers, Logs};
 ghost use Rattle.field.specs.Statements.{FieldLaws};
 
@@ -52,6 +52,17 @@ pub fn product_by(powers: &[u8; 510], logs: &[u8; 256], a: u8, b: u8) -> u8
         return 0;
     }
     powers[log(logs, a) + log(logs, b)]
+}
+
+// a times 2^e, by the lent tables: a logarithm and a test less than a product.
+pub fn times_power_by(powers: &[u8; 510], logs: &[u8; 256], a: u8, e: usize) -> u8
+    requires { ⌜ Powers (now powers) ⌝ ∗ ⌜ Logs (now logs) ⌝ ∗ ⌜ e ≤ 255 ⌝ }
+    ensures { λ r. ⌜ r ≡ product a (power e) ⌝ }
+{
+    if a == 0 {
+        return 0;
+    }
+    powers[log(logs, a) + e]
 }
 
 // a over b, and 0 where b is 0, by the lent tables.

@@ -7,7 +7,8 @@ use native.Mathlib.Omega.{arith}
 use borrow.Author.Tests.{eqb-true, eqb-false}
 use lib.Dec.{T, ltb, eqb, eqb→eq}
 use lib.Count.{ones, onesIn}
-use Rattle.bits.proofs.Computed.{allBelow, below, both-left, both-right}
+use Rattle.bits.specs.Alls.{allBelow}
+use Rattle.bits.proofs.Computed.{below, both-left, both-right}
 use Rattle.bits.proofs.Conds.{cond-both}
 use Rattle.protected.specs.Convolution.{parityOf}
 use Rattle.path.specs.declared.Seen.{Seen}

@@ -9,7 +9,8 @@ use native.Mathlib.Omega.{arith}
 use lib.Dec.{T, ltb, eqb}
 use lib.ListN.{getD, length}
 use borrow.Author.Tests.{lt-ltb, eq-eqb, ne-eqb, ltb-true, eqb-true}
-use Rattle.bits.proofs.Computed.{allBelow, below}
+use Rattle.bits.specs.Alls.{allBelow}
+use Rattle.bits.proofs.Computed.{below}
 use Rattle.protected.specs.Table.{count, Admitted, oddFits, evenFits, eachOnce, admits}
 use Rattle.bits.proofs.Turns.{all-true}
 

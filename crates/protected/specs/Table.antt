@@ -8,7 +8,7 @@ use mathlib.Core.Path.{_≡_}
 use Prim.Native.Nat.{ℕ, _+_, _*_, _<_}
 use lib.Dec.{ltb, eqb}
 use lib.ListN.{length, getD}
-use Rattle.bits.proofs.Computed.{allBelow}
+use Rattle.bits.specs.Alls.{allBelow}
 
 -- how often k stands in a list
 unfoldable pub count : ℕ → List ℕ → ℕ

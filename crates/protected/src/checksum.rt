@@ -5,6 +5,7 @@ ghost use lib.ListN.{getD, length};
 ghost use Rattle.bits.specs.Bit.{bitLo, tab, Bits};
 ghost use Rattle.protected.specs.Checksum.{crc8Step, crc8Of, then-zeros, checksum, inputBit, inputOf, position, checksumIn, checksumFor};
 ghost use Rattle.protected.specs.Convolution.{Input};
+use super::word::bit;
 
 fn wide16(x: u8) -> u16
     ensures { λ r. ⌜ r ≡ x ⌝ }
@@ -53,7 +54,7 @@ fn input_bit(payload: &[u8], c: u8, i: usize) -> u8
         return (c >> i) % 2;
     }
     if i < 82 {
-        return bits::bit(payload, i - 4);
+        return bit(payload, i - 4);
     }
     if i < 86 {
         return (c >> (i - 78)) % 2;
@@ -68,7 +69,7 @@ fn payload_bits(payload: &[u8]) -> [u8; 78]
 {
     let mut shifted = [0u8; 78];
     for i in 0..78usize {
-        shifted[i] = bits::bit(payload, i);
+        shifted[i] = bit(payload, i);
     }
     shifted
 }

@@ -1,4 +1,5 @@
-// Table admission: document 01's four rules, each a test of its own.
+// Table admission: document 01's four rules, each a test of its own. No loop ends early: an admitted table is tested to its end in any case, and the
+// compiler tests sixteen entries at a time.
 ghost use mathlib.Core.Path.{_≡_};
 ghost use mathlib.Core.Bool.{_||_};
 ghost use Prim.Native.Nat.{ℕ, _<_};
@@ -23,12 +24,13 @@ fn odd_fit(table: &[u8]) -> bool
     requires { ⌜ length (now table) ≡ 188 ⌝ }
     ensures { λ r. ⌜ r ≡ oddFits (now (table .entry)) ⌝ }
 {
+    let mut fit = true;
     for t in 0..94usize {
         if table[2 * t + 1] >= 176 {
-            return false;
+            fit = false;
         }
     }
-    true
+    fit
 }
 
 fn even_entry(e: u8) -> bool
@@ -44,12 +46,13 @@ fn even_fit(table: &[u8]) -> bool
     requires { ⌜ length (now table) ≡ 188 ⌝ }
     ensures { λ r. ⌜ r ≡ evenFits (now (table .entry)) ⌝ }
 {
+    let mut fit = true;
     for t in 0..94usize {
         if !even_entry(table[2 * t]) {
-            return false;
+            fit = false;
         }
     }
-    true
+    fit
 }
 
 fn each_once(table: &[u8]) -> bool
@@ -57,12 +60,13 @@ fn each_once(table: &[u8]) -> bool
     ensures { λ r. ⌜ r ≡ eachOnce (now (table .entry)) ⌝ }
 {
     let seen = occurrences(table);
+    let mut once = true;
     for k in 0..176usize {
         if seen[k] != 1 {
-            return false;
+            once = false;
         }
     }
-    true
+    once
 }
 
 // Whether the table is admitted, its length included.

@@ -5,13 +5,21 @@ ghost use lib.ListN.{getD, length};
 ghost use Rattle.bits.specs.Bit.{bitLo, number, Bits};
 ghost use Rattle.protected.specs.Word.{coded, withCodedByte, withCoded, payloadBit, payloadOf, frontByte, front};
 
+// Bit i of a slice of bytes, lowest bit first in its byte.
+pub(crate) fn bit(bytes: &[u8], i: usize) -> u8
+    requires { ⌜ i < 8 * length (now bytes) ⌝ }
+    ensures { λ r. ⌜ r ≡ bitLo (now (bytes .entry)) i ⌝ }
+{
+    (bytes[i / 8] >> (i % 8)) % 2
+}
+
 // The coded bits of a word, a bit to a byte.
 pub fn protected(word: &[u8; 42]) -> [u8; 176]
     ensures { λ r. ⌜ r ≡ coded (now (word .entry)) ⌝ }
 {
     let mut r = [0u8; 176];
     for m in 0..176usize {
-        r[m] = bits::bit(word, 40 + 128 * (m % 2) + m / 2);
+        r[m] = bit(word, 40 + 128 * (m % 2) + m / 2);
     }
     r
 }
@@ -71,10 +79,10 @@ fn payload_bit(word: &[u8; 42], input: &[u8; 94], i: usize) -> u8
         return input[4 + i];
     }
     if i < 118 {
-        return bits::bit(word, i - 78);
+        return bit(word, i - 78);
     }
     if i < 158 {
-        return bits::bit(word, 128 + (i - 118));
+        return bit(word, 128 + (i - 118));
     }
     0
 }
@@ -113,7 +121,7 @@ fn byte_from(payload: &[u8], i: usize) -> u8
     let mut j: usize = 8;
     while 0 < j {
         j -= 1;
-        v = 2 * v + bits::bit(payload, i + j);
+        v = 2 * v + bit(payload, i + j);
     }
     v
 }

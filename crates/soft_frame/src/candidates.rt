@@ -188,7 +188,7 @@ fn repairs(
 }
 
 // All candidates, with the input that the weighted search finds.
-pub fn candidates(
+pub(crate) fn candidates(
     powers: &[u8; 510],
     logs: &[u8; 256],
     table: &[u8],

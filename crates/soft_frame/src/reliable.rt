@@ -16,7 +16,7 @@ fn reliability_of(reliabilities: &[u8], i: usize) -> u8
 }
 
 // The weights of the coded bits.
-pub fn weights_of(reliabilities: &[u8]) -> [u8; 176]
+pub(crate) fn weights_of(reliabilities: &[u8]) -> [u8; 176]
     requires { ⌜ length (now reliabilities) ≡ 384 ⌝ }
     ensures { λ r. ⌜ r ≡ weightsOf (now (reliabilities .entry)) ⌝ }
 {
@@ -52,7 +52,7 @@ fn least_bit(reliabilities: &[u8], b: usize) -> u8
 }
 
 // The keys of the fourteen tail bytes.
-pub fn keys_of(reliabilities: &[u8]) -> [u16; 14]
+pub(crate) fn keys_of(reliabilities: &[u8]) -> [u16; 14]
     requires { ⌜ length (now reliabilities) ≡ 384 ⌝ }
     ensures { λ r. ⌜ r ≡ tailKeys (now (reliabilities .entry)) ⌝ }
 {
@@ -93,7 +93,7 @@ fn narrow(p: usize) -> u8
 }
 
 // The six places of least key, the least first and of equal ones the earlier; 256 marks one that is taken.
-pub fn least_places(keys: [u16; 14]) -> [u8; 6]
+pub(crate) fn least_places(keys: [u16; 14]) -> [u8; 6]
     ensures { λ r. ⌜ (r ≡ leastPlaces keys 6) × Below 14 r ⌝ }
 {
     let mut left = keys;

@@ -14,7 +14,9 @@ use Rattle.bits.specs.Bit.{tab, Bytes}
 use Rattle.bits.proofs.Belows.{below-tab}
 use Rattle.bits.proofs.Tabs.{length-tab, tab-at}
 use Rattle.algebra.proofs.Fields.{⊕-self, add-⊗}
-use Rattle.algebra.proofs.Vandermonde.{All, all-map, pow, sum-eq, sum-ext, sum-add, moment}
+use Rattle.bits.specs.Alls.{All}
+use Rattle.bits.proofs.Alls.{all-map}
+use Rattle.algebra.proofs.Vandermonde.{pow, sum-eq, sum-ext, sum-add, moment}
 use Rattle.algebra.proofs.Weights.{weights, weights-moment}
 use Rattle.algebra.proofs.Word.{places, all-below, erased, tick}
 use Rattle.algebra.proofs.Erasures.{marked, cons-mark, marked-moment, marked-distinct}

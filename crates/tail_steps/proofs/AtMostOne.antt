@@ -16,7 +16,8 @@ use Rattle.bits.proofs.Belows.{below-rest}
 use Rattle.field.specs.Field.{product, power, timesX}
 use Rattle.field.proofs.Products.{power-add}
 use Rattle.algebra.proofs.Fields.{same, zero-⊗, zero-⊕, ⊕-zero, add-⊗}
-use Rattle.algebra.proofs.Vandermonde.{All, pow, sum-eq, sum-add, moment}
+use Rattle.bits.specs.Alls.{All}
+use Rattle.algebra.proofs.Vandermonde.{pow, sum-eq, sum-add, moment}
 use Rattle.algebra.proofs.Word.{places, horner, node, horner-moment, supp, cons-if, errors, erased, unless, tick, unique}
 use Rattle.algebra.proofs.System.{all-at}
 use Rattle.algebra.proofs.Bytes.{minimum-seven, Byte, byte-eq, gf, X, distinct, zero-lt}

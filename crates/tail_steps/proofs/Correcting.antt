@@ -18,7 +18,9 @@ use Rattle.bits.specs.Bit.{Bytes, tab}
 use Rattle.bits.proofs.Tabs.{tab-at}
 use Rattle.field.specs.Field.{product, power}
 use Rattle.field.proofs.Products.{power-lt, power-add}
-use Rattle.algebra.proofs.Vandermonde.{All, all-map, Distinct, pow, moment}
+use Rattle.bits.specs.Alls.{All}
+use Rattle.bits.proofs.Alls.{all-map}
+use Rattle.algebra.proofs.Vandermonde.{Distinct, pow, moment}
 use Rattle.algebra.proofs.Word.{places, all-below}
 use Rattle.algebra.proofs.Elimination.{Solves}
 use Rattle.algebra.proofs.System.{System, error-solves, only-zero}

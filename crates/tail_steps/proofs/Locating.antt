@@ -13,7 +13,9 @@ use Rattle.bits.specs.Bit.{Bytes, tab, Below}
 use Rattle.bits.proofs.Tabs.{length-tab, tab-at, is-tab}
 use Rattle.field.specs.Field.{power}
 use Rattle.algebra.proofs.Fields.{same}
-use Rattle.algebra.proofs.Vandermonde.{All, all-map, moment}
+use Rattle.bits.specs.Alls.{All}
+use Rattle.bits.proofs.Alls.{all-map}
+use Rattle.algebra.proofs.Vandermonde.{moment}
 use Rattle.algebra.proofs.Polynomial.{eval, DegLe}
 use Rattle.algebra.proofs.Massey.{conv}
 use Rattle.algebra.proofs.Locate.{State, run}

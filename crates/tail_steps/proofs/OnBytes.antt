@@ -16,7 +16,7 @@ use Rattle.bits.proofs.Belows.{below-rest}
 use Rattle.field.specs.Field.{product, power}
 use Rattle.field.proofs.Products.{power-lt, power-add, power-255}
 use Rattle.field.proofs.Laws.{power-distinct}
-use Rattle.algebra.proofs.Vandermonde.{All}
+use Rattle.bits.specs.Alls.{All}
 use Rattle.algebra.proofs.Erasures.{gamma, gamma-root, gamma-root-more, gamma-live}
 use Rattle.algebra.proofs.Polynomial.{upd, eval}
 use Rattle.algebra.proofs.Massey.{conv}

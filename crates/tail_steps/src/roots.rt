@@ -12,16 +12,16 @@ use crate::erasures::forney;
 use crate::erasures::locator;
 use crate::massey::massey;
 
-// The value of the locator at z.
-fn evaluate(powers: &[u8; 510], logs: &[u8; 256], loc: [u8; 7], z: u8) -> u8
-    requires { ⌜ Powers (now powers) ⌝ ∗ ⌜ Logs (now logs) ⌝ }
-    ensures { λ r. ⌜ r ≡ evalAt loc z ⌝ }
+// The value of the locator at 2^e.
+fn evaluate(powers: &[u8; 510], logs: &[u8; 256], loc: [u8; 7], e: usize) -> u8
+    requires { ⌜ Powers (now powers) ⌝ ∗ ⌜ Logs (now logs) ⌝ ∗ ⌜ e ≤ 255 ⌝ }
+    ensures { λ r. ⌜ r ≡ evalAt loc (power e) ⌝ }
 {
     let mut v: u8 = 0;
     let mut i: usize = 7;
     while 0 < i {
         i -= 1;
-        v = loc[i] ^ field::product_by(powers, logs, z, v);
+        v = loc[i] ^ field::times_power_by(powers, logs, v, e);
     }
     v
 }
@@ -34,7 +34,7 @@ fn values(powers: &[u8; 510], logs: &[u8; 256], loc: [u8; 7]) -> [u8; 14]
     let mut out = [0u8; 14];
     let mut p: usize = 0;
     while p < 14 {
-        out[p] = evaluate(powers, logs, loc, field::power_by(powers, 242 + p));
+        out[p] = evaluate(powers, logs, loc, 242 + p);
         p += 1;
     }
     out

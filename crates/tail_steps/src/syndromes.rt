@@ -1,21 +1,21 @@
 // The six syndromes of a tail: its values at 2^0 to 2^5. Of a codeword, and of no other tail, all are zero.
 ghost use mathlib.Core.Path.{_≡_};
 ghost use mathlib.Core.Bool.{true, false};
-ghost use Prim.Native.Nat.{ℕ, _<_};
+ghost use Prim.Native.Nat.{ℕ, _<_, _≤_};
 ghost use lib.ListN.{getD};
 ghost use Rattle.bits.specs.Bit.{tab};
-ghost use Rattle.field.specs.Field.{Powers, Logs};
+ghost use Rattle.field.specs.Field.{power, Powers, Logs};
 ghost use Rattle.tail_steps.specs.Code.{value, syndrome};
 
-// The value of a tail at x, the first byte of highest degree.
-fn horner(powers: &[u8; 510], logs: &[u8; 256], t: [u8; 14], x: u8) -> u8
-    requires { ⌜ Powers (now powers) ⌝ ∗ ⌜ Logs (now logs) ⌝ }
-    ensures { λ r. ⌜ r ≡ value 0 t x ⌝ }
+// The value of a tail at 2^e, the first byte of highest degree.
+fn horner(powers: &[u8; 510], logs: &[u8; 256], t: [u8; 14], e: usize) -> u8
+    requires { ⌜ Powers (now powers) ⌝ ∗ ⌜ Logs (now logs) ⌝ ∗ ⌜ e ≤ 255 ⌝ }
+    ensures { λ r. ⌜ r ≡ value 0 t (power e) ⌝ }
 {
     let mut v: u8 = 0;
     let mut i: usize = 0;
     while i < 14 {
-        v = field::product_by(powers, logs, v, x) ^ t[i];
+        v = field::times_power_by(powers, logs, v, e) ^ t[i];
         i += 1;
     }
     v
@@ -29,7 +29,7 @@ pub fn syndromes_of(powers: &[u8; 510], logs: &[u8; 256], t: [u8; 14]) -> [u8; 6
     let mut out = [0u8; 6];
     let mut i: usize = 0;
     while i < 6 {
-        out[i] = horner(powers, logs, t, field::power_by(powers, i));
+        out[i] = horner(powers, logs, t, i);
         i += 1;
     }
     out

@@ -51,7 +51,7 @@ pub fn with_last(word: [u8; 42], last: [u8; 14]) -> [u8; 42]
 }
 
 // The word with its tail made anew.
-pub fn with_tail(powers: &[u8; 510], logs: &[u8; 256], word: [u8; 42]) -> [u8; 42]
+pub(crate) fn with_tail(powers: &[u8; 510], logs: &[u8; 256], word: [u8; 42]) -> [u8; 42]
     requires { ⌜ Powers (now powers) ⌝ ∗ ⌜ Logs (now logs) ⌝ }
     ensures { λ r. ⌜ r ≡ withTail word ⌝ }
 {
@@ -60,7 +60,7 @@ pub fn with_tail(powers: &[u8; 510], logs: &[u8; 256], word: [u8; 42]) -> [u8; 4
 }
 
 // The word with the coded bits, the mode and the tail that belong to them.
-pub fn together(
+pub(crate) fn together(
     powers: &[u8; 510],
     logs: &[u8; 256],
     word: &[u8; 42],

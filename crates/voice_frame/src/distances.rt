@@ -5,13 +5,13 @@ ghost use lib.Bits.{bitXor};
 ghost use lib.Count.{ones};
 ghost use Rattle.trials.specs.Candidate.{bitsApart, unlike, bytesApart, modeApart};
 
-pub fn byte_apart(a: u8, b: u8) -> u32
+pub(crate) fn byte_apart(a: u8, b: u8) -> u32
     ensures { λ r. ⌜ (r ≡ ones (bitXor a b)) × (r ≤ 8) ⌝ }
 {
     u8::count_ones(a ^ b)
 }
 
-pub fn differs(a: u8, b: u8) -> u32
+pub(crate) fn differs(a: u8, b: u8) -> u32
     ensures { λ r. ⌜ (r ≡ unlike a b) × (r ≤ 1) ⌝ }
 {
     if a == b {
@@ -21,7 +21,7 @@ pub fn differs(a: u8, b: u8) -> u32
 }
 
 // The bits in which n bytes from a byte on differ.
-pub fn bits_apart(a: &[u8; 42], b: &[u8; 42], from: usize, n: usize) -> u32
+pub(crate) fn bits_apart(a: &[u8; 42], b: &[u8; 42], from: usize, n: usize) -> u32
     requires { ⌜ from + n ≤ 42 ⌝ }
     ensures { λ r. ⌜ (r ≡ bitsApart (now (a .entry)) (now (b .entry)) from n) × (r ≤ 336) ⌝ }
 {
@@ -45,7 +45,7 @@ pub fn bytes_apart(a: &[u8; 42], b: &[u8; 42], from: usize, n: usize) -> u32
 }
 
 // The bits of bytes 32 and 33 that differ from 0x80 and the flag.
-pub fn mode_apart(word: &[u8; 42], flag: u8) -> u32
+pub(crate) fn mode_apart(word: &[u8; 42], flag: u8) -> u32
     ensures { λ r. ⌜ r ≡ modeApart (now (word .entry)) flag ⌝ }
 {
     byte_apart(word[32], 0x80) + byte_apart(word[33], flag)

@@ -1,43 +1,49 @@
-use mathlib.Core.Path.{_≡_}
-use Prim.Native.Nat.{ℕ, _+_, _-_, _*_, _≤_, _<_}
+use mathlib.Core.Path.{_≡_, refl, sym, ap, _∙_}
+use mathlib.Core.Logic.{⊎-elim}
+use mathlib.Core.Bool.{Bool}
+use mathlib.Core.List.{List}
+use Prim.Native.Nat.{ℕ, _+_, _-_, _*_, _≤_}
 use native.Mathlib.Omega.{arith}
-use lib.ListN.{getD}
-use Rattle.protected.specs.Table.{oddFits}
-use mathlib.Core.Bool.{true}
 use lib.Dec.{ltb}
-use native.Mathlib.Nat.{not-suc-le-zero}
-use borrow.Author.Count.{below-more}
+use lib.ListN.{getD}
 use borrow.Author.Tests.{lt-ltb, le-ltb}
-use Rattle.bits.proofs.Turns.{all-true, some-false}
 use borrow.Author.Needs.{needs}
+use Rattle.bits.specs.Alls.{allBelow}
+use Rattle.bits.proofs.Turns.{all-passed, all-failed}
+use Rattle.protected.specs.Table.{oddFits}
 use Rattle.protected.proofs.table.odd_fit.Statement.{statement}
 use Rattle.protected.proofs.table.odd_fit.Tie as tie
 
+-- what is tested of each entry
+abbrev Fits : List ℕ → ℕ → Bool
+Fits table = λ t. ltb (getD table (2 * t + 1) 0) 176
+
 abbrev Inv-loop : tie.InvT-loop
-Inv-loop table t₀ t = (t ≤ 94) × ((k : ℕ) → k < t → ltb (getD table (2 * k + 1) 0) 176 ≡ true)
+Inv-loop table fit₀ t₀ fit t = (t ≤ 94) × (fit ≡ allBelow t (Fits table))
 
 abbrev μ-loop : tie.MeasureT-loop
-μ-loop table t₀ t = 94 - t
+μ-loop table fit₀ t₀ fit t = 94 - t
 
 loop-holds : tie.Need-loop-holds Inv-loop μ-loop
-loop-holds c = (search needs, λ k h. absurd (not-suc-le-zero h))
+loop-holds c = (search needs, refl)
+
+loop-again : tie.Need-loop-again Inv-loop μ-loop
+loop-again c =
+    let l = c .before .before .before .loop in
+    let table = c .before .before .before .before .args .table .now in (
+      search needs,
+      ⊎-elim
+          (λ w. w .1 ∙ all-failed (Fits table) (l .t) (le-ltb _ _ (w .0 .taken)))
+          (λ w. w .1 ∙ all-passed (Fits table) (l .t) (l .inv .1) (lt-ltb _ _ (w .0 .left)))
+          (c .if1 .came),
+    )
 
 returns : tie.Need-returns Inv-loop μ-loop
 unfolding oddFits
 returns c =
-    let l = c .before .before .before .loop in
-    let table = c .before .before .before .before .args .table .now in
-    some-false 94 (λ t. ltb (getD table (2 * t + 1) 0) 176) (l .t) (search needs) (le-ltb (getD table (2 * l .t + 1) 0) 176 (c .if1 .taken))
-
-loop-again : tie.Need-loop-again Inv-loop μ-loop
-loop-again c = (search needs, below-more _ _ (c .before .before .before .loop .inv .1) (lt-ltb _ _ (c .if1 .left)))
-
-returns-2 : tie.Need-returns-2 Inv-loop μ-loop
-unfolding oddFits
-returns-2 c =
     let l = c .before .loop in
-    let table = c .before .before .args .table .now in
-    all-true 94 (λ t. ltb (getD table (2 * t + 1) 0) 176) (λ k h. l .inv .1 k (omega arith))
+    let e : l .t ≡ 94 = omega arith in
+    l .inv .1 ∙ ap (λ (k : ℕ). allBelow k (Fits (c .before .before .args .table .now))) e
 
 pub odd-fit-spec : {M : Type 1} → statement M
 odd-fit-spec =
@@ -49,8 +55,7 @@ odd-fit-spec =
     (λ c. search needs)
     (λ c. search needs)
     (λ c. search needs)
-    returns
     (λ c. search needs)
     (λ c. search needs)
     loop-again
-    returns-2)
+    returns)

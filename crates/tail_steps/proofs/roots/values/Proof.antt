@@ -1,6 +1,6 @@
 -- `tail_steps::roots::values` meets its contract.
 -- Assumes nothing.
-use mathlib.Core.Path.{_≡_, refl, ap, _∙_}
+use mathlib.Core.Path.{_≡_, refl, _∙_}
 use Prim.Native.Nat.{ℕ, _+_, _-_, _<_, _≤_}
 use native.Mathlib.Omega.{arith}
 use lib.ListN.{length, getD, length-set}
@@ -23,12 +23,11 @@ loop-holds c = (omega arith, refl, λ k l. absurd (omega (arith, l)))
 
 loop-again : tie.Need-loop-again Inv-loop μ-loop
 loop-again c =
-    let l = c .before .before .before .loop in
-    let a = c .before .before .before .before .args in (
+    let l = c .before .before .loop in
+    let a = c .before .before .before .args in (
       omega arith,
       length-set (l .out) (l .p) _ ∙ l .inv .1,
-      set-more (l .out) 0 (λ k x. x ≡ evalAt (a .loc) (power (242 + k))) (l .p) _ (omega (arith, l .inv .1)) (l .inv .2)
-          (c .evaluate .ensures ∙ ap (λ (x : ℕ). evalAt (a .loc) x) (c .before .power-by .ensures)),
+      set-more (l .out) 0 (λ k x. x ≡ evalAt (a .loc) (power (242 + k))) (l .p) _ (omega (arith, l .inv .1)) (l .inv .2) (c .evaluate .ensures),
     )
 
 returns : tie.Need-returns Inv-loop μ-loop
@@ -44,7 +43,6 @@ values-spec =
     μ-loop
     loop-holds
     (λ c. search needs)
-    (λ c κs. search needs)
     (λ c κs. search needs)
     (λ c. search needs)
     (λ c. search needs)

@@ -1,13 +1,13 @@
 -- `tail_steps::syndromes::syndromes_of` meets its contract.
 -- Assumes nothing.
-use mathlib.Core.Path.{_≡_, refl, ap, _∙_}
+use mathlib.Core.Path.{_≡_, refl, _∙_}
 use Prim.Native.Nat.{ℕ, _-_, _<_, _≤_}
 use native.Mathlib.Omega.{arith}
 use lib.ListN.{length, getD, length-set}
 use borrow.Author.Needs.{needs}
 use Rattle.bits.proofs.Tabs.{is-tab}
 use Rattle.bits.proofs.Filling.{set-more}
-use Rattle.tail_steps.specs.Code.{value, syndrome}
+use Rattle.tail_steps.specs.Code.{syndrome}
 use Rattle.tail_steps.proofs.syndromes.syndromes_of.Statement.{statement}
 use Rattle.tail_steps.proofs.syndromes.syndromes_of.Tie as tie
 
@@ -23,12 +23,11 @@ loop-holds c = (omega arith, refl, λ k l. absurd (omega (arith, l)))
 loop-again : tie.Need-loop-again Inv-loop μ-loop
 unfolding syndrome
 loop-again c =
-    let l = c .before .before .before .loop in
-    let a = c .before .before .before .before .args in (
+    let l = c .before .before .loop in
+    let a = c .before .before .before .args in (
       omega arith,
       length-set (l .out) (l .i) _ ∙ l .inv .1,
-      set-more (l .out) 0 (λ k x. x ≡ syndrome (a .t) k) (l .i) _ (omega (arith, l .inv .1)) (l .inv .2)
-          (c .horner .ensures ∙ ap (λ (x : ℕ). value 0 (a .t) x) (c .before .power-by .ensures)),
+      set-more (l .out) 0 (λ k x. x ≡ syndrome (a .t) k) (l .i) _ (omega (arith, l .inv .1)) (l .inv .2) (c .horner .ensures),
     )
 
 returns : tie.Need-returns Inv-loop μ-loop
@@ -43,7 +42,6 @@ syndromes-of-spec =
     Inv-loop
     μ-loop
     loop-holds
-    (λ c κs. search needs)
     (λ c κs. search needs)
     (λ c. search needs)
     (λ c. search needs)
