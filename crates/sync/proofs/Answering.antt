@@ -1,100 +1,141 @@
--- The answer to a push, by the test that decided.
+-- The answer to a push, and what a push does that is refused or taken.
 -- Assumes nothing.
 use mathlib.Core.Path.{_≡_, refl, sym, ap, _∙_, subst}
 use mathlib.Core.List.{List, []}
-use mathlib.Core.Bool.{Bool, true, false, true≢false, not}
-use Prim.Native.Nat.{ℕ, zero, suc, _≤_, _<_, _^_}
+use mathlib.Core.Bool.{Bool, true, false}
+use Prim.Native.Nat.{ℕ, _≤_, _<_, _^_}
 use native.Mathlib.Omega.{arith}
-use borrow.Author.Tests.{eqb-true, eqb-false}
-use lib.Dec.{eqb}
+use borrow.Author.Tests.{ltb-true, ltb-false, leb-true, leb-false}
+use lib.Dec.{ltb, leb}
 use lib.ListN.{length}
 use Rattle.bits.specs.declared.Refusal.{Refusal}
-use Rattle.bits.specs.declared.Refusal.the-variants.{Dibit, FrameRoom, StreamEnd}
-use Rattle.bits.proofs.Conds.{cond-lt, cond-ge, cond-le, cond-gt}
+use Rattle.bits.proofs.Conds.{cond-lt, cond-ge, cond-le}
 use Rattle.sync.specs.declared.numbers.Numbers.{Numbers}
-use Rattle.sync.specs.declared.pushes.Into.{Into}
+use Rattle.sync.specs.declared.frames.Drained.{Drained}
+use Rattle.sync.specs.declared.pushes.Given.{Given}
 use Rattle.sync.specs.declared.Push.{Push}
 use Rattle.sync.specs.declared.Push.the-variants.{Taken, Refused}
-use Rattle.sync_rules.specs.declared.Head.{Head}
-use Rattle.sync.specs.View.{viewOf, Steady, Few, Rings}
-use Rattle.sync.specs.Steps.{headsOf, DrainedBy}
-use Rattle.sync.specs.Answers.{answerTo, pushOf, takes, refusedWith, PushedInto}
+use Rattle.sync.specs.declared.Pushed.{Pushed}
+use Rattle.sync.specs.declared.Synchroniser.{Synchroniser}
+use Rattle.sync.specs.View.{view, viewOf, Steady, Few, Rings}
+use Rattle.sync.specs.Steps.{Brought, SentAfter, DrainedBy, nothingOf, inputOf}
+use Rattle.sync.specs.Answers.{answerBy, answerTo, pushOf, takes, PushedBy, handedOf}
 use Rattle.sync_rules.specs.State.{State, Input}
 use Rattle.sync_rules.specs.Pushes.{Out, step}
 use Rattle.sync_rules.specs.Room.{laid}
+use Rattle.sync.proofs.Bringing.{stepped}
 
-module _ (room : ℕ) (x : Input) (m : State) where
-  pub dibit-refused : 3 < x .dibit → answerTo room x m ≡ Refused Dibit
-  unfolding answerTo
-  dibit-refused h = cond-lt 3 (x .dibit) _ _ h
+-- what the tests of a push that is taken have shown
+pub record Taking (room dibit taken : ℕ) : Type 0 where
+  pub good : dibit ≤ 3
+  pub fits : 1296 ≤ room
+  pub early : taken < 2 ^ 40
 
-  pub room-refused : x .dibit ≤ 3 → room < 1296 → answerTo room x m ≡ Refused FrameRoom
-  unfolding answerTo
-  room-refused d h = cond-ge 3 (x .dibit) _ _ d ∙ cond-lt room 1296 _ _ h
+made-none : (a b : Push) → a ≡ b → takes a ≡ 0 → takes b ≡ 0
+made-none a b e z = sym (ap takes e) ∙ z
 
-  pub end-refused : x .dibit ≤ 3 → 1296 ≤ room → 2 ^ 40 ≤ m .taken → answerTo room x m ≡ Refused StreamEnd
-  unfolding answerTo
-  end-refused d r h = cond-ge 3 (x .dibit) _ _ d ∙ cond-ge room 1296 _ _ r ∙ cond-le (2 ^ 40) (m .taken) _ _ h
+module _ (room dibit taken : ℕ) (made : takes (answerBy room dibit taken) ≡ 0 → ⊥) where
+  good : (b : Bool) → ltb 3 dibit ≡ b → dibit ≤ 3
+  unfolding answerBy takes
+  good true e = absurd (made (ap takes (cond-lt 3 dibit _ _ (ltb-true 3 dibit e))))
+  good false e = ltb-false 3 dibit e
 
-  pub none-refused : x .dibit ≤ 3 → 1296 ≤ room → m .taken < 2 ^ 40 → answerTo room x m ≡ Taken
-  unfolding answerTo
-  none-refused d r h = cond-ge 3 (x .dibit) _ _ d ∙ cond-ge room 1296 _ _ r ∙ cond-gt (2 ^ 40) (m .taken) _ _ h
+  fits : (b : Bool) → ltb room 1296 ≡ b → 1296 ≤ room
+  unfolding answerBy takes
+  fits true e = absurd (made (ap takes (cond-ge 3 dibit _ _ (good (ltb 3 dibit) refl) ∙ cond-lt room 1296 _ _ (ltb-true room 1296 e))))
+  fits false e = ltb-false room 1296 e
 
-module _ (bits reliabilities room : List ℕ) (k : Numbers) (x : Input) where
+  early : (b : Bool) → leb (2 ^ 40) taken ≡ b → taken < 2 ^ 40
+  unfolding answerBy takes
+  early true e = absurd (made (ap takes (cond-ge 3 dibit _ _ (good (ltb 3 dibit) refl) ∙ cond-ge room 1296 _ _ (fits (ltb room 1296) refl) ∙ cond-le (2 ^ 40) taken _ _ (leb-true (2 ^ 40) taken e))))
+  early false e = leb-false (2 ^ 40) taken e
+
+pub taking : (room dibit taken : ℕ) (a : Push) → a ≡ answerBy room dibit taken → (takes a ≡ 0 → ⊥) → Taking room dibit taken
+taking room dibit taken a e h =
+    let m : takes (answerBy room dibit taken) ≡ 0 → ⊥ = λ z. h (made-none (answerBy room dibit taken) a (sym e) z) in
+    record { good = good room dibit taken m (ltb 3 dibit) refl; fits = fits room dibit taken m (ltb room 1296) refl; early = early room dibit taken m (leb (2 ^ 40) taken) refl }
+
+pub is-taken : (a : Push) → (takes a ≡ 0 → ⊥) → a ≡ Taken
+unfolding takes
+is-taken Taken h = refl
+is-taken (Refused f) h = absurd (h refl)
+
+-- a push x into rings lent in place: its answer a, and the frames d
+pub record PushedInto (bits reliabilities bits′ reliabilities′ room room′ : List ℕ) (k : Numbers) (x : Input) (a : Push) (d : Drained) : Type 0 where
+  pub answer : a ≡ answerTo (length room) x (viewOf bits reliabilities k)
+  pub drained : DrainedBy bits′ reliabilities′ room room′ 0 3 (pushOf a x (viewOf bits reliabilities k)) (d .numbers) (d .count) (d .heads)
+  pub rings : Rings bits′ reliabilities′
+  -- a refused push leaves the rings and the numbers as they were
+  pub kept : takes a ≡ 0 → (bits′ ≡ bits) × (reliabilities′ ≡ reliabilities) × (d .numbers ≡ k)
+
+module _ (bits reliabilities room : List ℕ) (k : Numbers) (x : Input) (a : Push) (e : a ≡ answerBy (length room) (x .dibit) (k .taken)) where
   abbrev M : State
   M = viewOf bits reliabilities k
 
-  unmoved : (f : Refusal) → Steady k → Few k → DrainedBy bits reliabilities room room 0 3 (pushOf (Refused f) x M) k 0 (headsOf 3 [])
-  unfolding pushOf laid
-  unmoved f st fw = record { steady = st; few = fw; next = refl; many = refl; figures = refl; stored = refl }
+  answers : a ≡ answerTo (length room) x M
+  unfolding answerTo
+  answers = e
 
-  pub refuses : (f : Refusal) → answerTo (length room) x M ≡ Refused f → Steady k → Few k → Rings bits reliabilities
-      → (r : Into) → r ≡ refusedWith k f → PushedInto bits reliabilities bits reliabilities room room k x r
-  unfolding takes
-  refuses f e st fw rs r er =
-      subst (λ (z : Into). PushedInto bits reliabilities bits reliabilities room room k x z) (sym er)
-      (record {
-        answer = sym e;
-        drained = subst (λ (a : Push). DrainedBy bits reliabilities room room 0 3 (pushOf a x M) k 0 (headsOf 3 [])) (sym e) (unmoved f st fw);
-        rings = rs;
-        took = refl;
-        goes-on = λ w. absurd (true≢false w);
-        stops = λ t a. absurd (true≢false (ap is-refused a));
-        kept = λ z. (refl, refl, refl);
-      })
-    where
-      is-refused : Push → Bool
-      is-refused Taken = false
-      is-refused (Refused f) = true
+  unmoved : (b : Push) → takes b ≡ 0 → Steady k → Few k → DrainedBy bits reliabilities room room 0 3 (pushOf b x M) k 0 (nothingOf k .heads)
+  unfolding pushOf laid takes
+  unmoved Taken z st fw = absurd (omega arith)
+  unmoved (Refused f) z st fw = record { steady = st; few = fw; next = refl; many = refl; figures = refl; stored = refl }
 
-  taken-drained : (bits′ reliabilities′ room′ : List ℕ) (numbers : Numbers) (count : ℕ) (heads : List Head)
-      → DrainedBy bits′ reliabilities′ room room′ 0 3 (step x M) numbers count heads → DrainedBy bits′ reliabilities′ room room′ 0 3 (pushOf Taken x M) numbers count heads
-  unfolding pushOf
-  taken-drained bits′ reliabilities′ room′ numbers count heads d = d
+  pub refuses : takes a ≡ 0 → Steady k → Few k → Rings bits reliabilities → (d : Drained) → d ≡ nothingOf k → PushedInto bits reliabilities bits reliabilities room room k x a d
+  refuses z st fw rs d ed =
+      subst (λ (n : Drained). PushedInto bits reliabilities bits reliabilities room room k x a n) (sym ed)
+      (record { answer = answers; drained = unmoved a z st fw; rings = rs; kept = λ w. (refl, refl, refl) })
 
-  above : (n : ℕ) → (n ≡ 0 → ⊥) → 0 < n
-  above zero h = absurd (h refl)
-  above (suc n) h = omega arith
+  by-step : (b : Push) → (takes b ≡ 0 → ⊥) → step x M ≡ pushOf b x M
+  unfolding pushOf takes
+  by-step Taken h = refl
+  by-step (Refused f) h = absurd (h refl)
 
-  pub accepts : answerTo (length room) x M ≡ Taken → (bits′ reliabilities′ room′ : List ℕ) (numbers : Numbers) (count : ℕ) (heads : List Head)
-      → DrainedBy bits′ reliabilities′ room room′ 0 3 (step x M) numbers count heads → Rings bits′ reliabilities′
-      → PushedInto bits reliabilities bits′ reliabilities′ room room′ k x (record { answer = Taken; took = 1; stops = not (eqb count 0); numbers = numbers; count = count; heads = heads })
-  unfolding takes
-  accepts e bits′ reliabilities′ room′ numbers count heads d rs =
+  -- its bits are brought, and the search and the frames follow
+  pub accepts : (takes a ≡ 0 → ⊥) → (bits′ reliabilities′ room′ : List ℕ) (one : Numbers) → Brought bits reliabilities bits′ reliabilities′ k x one → (d : Drained) → SentAfter bits′ reliabilities′ room room′ one d
+      → PushedInto bits reliabilities bits′ reliabilities′ room room′ k x a d
+  accepts h bits′ reliabilities′ room′ one b d s =
       record {
-        answer = sym e;
-        drained = subst (λ (a : Push). DrainedBy bits′ reliabilities′ room room′ 0 3 (pushOf a x M) numbers count heads) (sym e) (taken-drained bits′ reliabilities′ room′ numbers count heads d);
-        rings = rs;
-        took = refl;
-        goes-on = λ w. (refl, eqb-true count 0 (flip (eqb count 0) w));
-        stops = λ t a. above count (eqb-false count 0 (flop (eqb count 0) t));
-        kept = λ z. absurd (omega arith);
+        answer = answers;
+        drained = subst (λ (o : Out). DrainedBy bits′ reliabilities′ room room′ 0 3 o (d .numbers) (d .count) (d .heads)) (stepped bits reliabilities bits′ reliabilities′ k x one b ∙ by-step a h) s;
+        rings = b .rings;
+        kept = λ z. absurd (h z);
       }
-    where
-      flip : (b : Bool) → not b ≡ false → b ≡ true
-      flip true h = refl
-      flip false h = absurd (true≢false h)
 
-      flop : (b : Bool) → not b ≡ true → b ≡ false
-      flop true h = sym h
-      flop false h = refl
+-- ---- what a push hands back
+pub pushed-with : (room room′ : List ℕ) (s : Synchroniser) (g h : Given) (r : Pushed) → g ≡ h → PushedBy room room′ s (inputOf g) r → PushedBy room room′ s (inputOf h) r
+pushed-with room room′ s g h r e p = subst (λ (z : Given). PushedBy room room′ s (inputOf z) r) e p
+
+make : List ℕ → List ℕ → Numbers → Synchroniser
+make b r n = record { bits = b; reliabilities = r; numbers = n }
+
+make-same : (b b′ r r′ : List ℕ) (n n′ : Numbers) → b ≡ b′ → r ≡ r′ → n ≡ n′ → make b r n ≡ make b′ r′ n′
+make-same b b′ r r′ n n′ p q t = cc
+
+same-parts : (s : Synchroniser) (b r : List ℕ) (n : Numbers) → b ≡ s .bits → r ≡ s .reliabilities → n ≡ s .numbers → record { bits = b; reliabilities = r; numbers = n } ≡ s
+unfolding make
+same-parts s b r n p q t = make-same b (s .bits) r (s .reliabilities) n (s .numbers) p q t
+
+module _ (s : Synchroniser) (bits reliabilities room room′ : List ℕ) (numbers : Numbers) (x : Input) (a : Push) (d : Drained) (i : PushedInto (s .bits) (s .reliabilities) bits reliabilities room room′ (s .numbers) x a d) where
+  abbrev with-numbers : Numbers → Pushed
+  with-numbers n = handedOf a d (record { bits = bits; reliabilities = reliabilities; numbers = n })
+
+  D : DrainedBy bits reliabilities room room′ 0 3 (pushOf (answerTo (length room) x (view s)) x (view s)) (d .numbers) (d .count) (d .heads)
+  D = subst (λ (b : Push). DrainedBy bits reliabilities room room′ 0 3 (pushOf b x (view s)) (d .numbers) (d .count) (d .heads)) (i .answer) (i .drained)
+
+  by-parts : PushedBy room room′ s x (with-numbers (d .numbers))
+  by-parts =
+      record {
+        answer = i .answer;
+        valid = record { steady = D .steady; binary = i .rings .binary; few = D .few };
+        next = D .next;
+        many = D .many;
+        figures = D .figures;
+        stored = D .stored;
+        kept = λ z. let k = i .kept z in same-parts s bits reliabilities (d .numbers) (k .0) (k .1) (k .2);
+      }
+
+  pub handed-by : numbers ≡ d .numbers → (p : Pushed) → p ≡ with-numbers numbers → PushedBy room room′ s x p
+  handed-by en p e =
+      subst (λ (q : Pushed). PushedBy room room′ s x q) (sym e)
+      (subst (λ (n : Numbers). PushedBy room room′ s x (with-numbers n)) (sym en) by-parts)

@@ -1,23 +1,19 @@
 -- Two bits brought into the rings, and the push from its parts.
 -- Assumes nothing.
-use mathlib.Core.Path.{_≡_, refl, sym, ap, ap₂, _∙_, subst}
-use mathlib.Core.List.{List, [], _∷_, _++_, append-assoc, map}
-use mathlib.Core.Bool.{Bool, true, false, _||_}
+use mathlib.Core.Path.{_≡_, sym, ap, ap₂, _∙_, subst}
+use mathlib.Core.List.{List, [], _∷_, _++_, append-assoc}
+use mathlib.Core.Bool.{_||_}
 use Prim.Native.Nat.{ℕ, zero, suc, _+_, _/_, _%_, _≤_, _<_, _^_}
 use native.Mathlib.Omega.{arith}
-use lib.ListN.{length, getD, set, length-set, take, replicate}
+use lib.ListN.{length, set, length-set}
 use Rattle.sync.specs.declared.numbers.Numbers.{Numbers}
-use Rattle.sync_rules.specs.declared.Head.{Head}
-use Rattle.sync.specs.declared.Synchroniser.{Synchroniser}
 use Rattle.sync.specs.Ring.{ring}
 use Rattle.bits.specs.Bit.{Bits}
 use Rattle.bits.proofs.BelowSets.{below-set}
-use Rattle.sync.specs.View.{viewOf, heldOf, Sound, Low, Steady, Valid}
-use Rattle.sync.specs.Steps.{Searched, DrainedBy, appendedTo, headOf}
-use Rattle.sync.specs.Answers.{PushedBy}
+use Rattle.sync.specs.View.{viewOf, heldOf, Sound, Low, Steady, Rings}
+use Rattle.sync.specs.Steps.{Brought, Searched, appendedTo}
 use Rattle.sync_rules.specs.State.{State, Input, bring}
-use Rattle.sync_rules.specs.Pushes.{Out, search, drain, step}
-use Rattle.sync_rules.specs.Room.{laid}
+use Rattle.sync_rules.specs.Pushes.{search, drain, step}
 use Rattle.sync.proofs.Rings.{ring-put}
 
 pub put-two : (xs : List ℕ) (f n a b : ℕ) → length xs ≡ 1155 → n + 2 ≤ 1155 → (m : ℕ) → m ≡ n + 1 + 1 → ring (set (set xs ((f + n) % 1155) a) ((f + n + 1) % 1155) b) f m ≡ ring xs f n ++ (a ∷ b ∷ [])
@@ -63,9 +59,23 @@ module _ (xs ys : List ℕ) (c : Numbers) (lx : length xs ≡ 1155) (ly : length
         fails = st .fails;
       })
 
-  pub stepped : (one two : Numbers) → one ≡ appendedTo c (x .soft) → Searched newBits one two → drain 3 (viewOf newBits newRels two) ≡ step x (viewOf xs ys c)
-  unfolding step
-  stepped one two e s = ap (drain 3) (s .same newRels ∙ ap search (ap (viewOf newBits newRels) e ∙ brought))
+  newly : (one : Numbers) → one ≡ appendedTo c (x .soft) → Bits xs → x .dibit < 4 → Brought xs ys newBits newRels c x one
+  newly one e bi l =
+      record {
+        numbers = e;
+        steady = sound-new one e;
+        rings = record { long = length-set (set xs _ _) _ _ ∙ length-set xs _ _ ∙ lx; as-long = length-set (set ys _ _) _ _ ∙ length-set ys _ _ ∙ ly; binary = binary-new bi l };
+        same = ap (viewOf newBits newRels) e ∙ brought;
+      }
+
+  pub brings : (bits reliabilities : List ℕ) → bits ≡ newBits → reliabilities ≡ newRels → (one : Numbers) → one ≡ appendedTo c (x .soft) → Bits xs → x .dibit < 4 → Brought xs ys bits reliabilities c x one
+  brings bits reliabilities eb er one e bi l =
+      subst (λ (v : List ℕ). Brought xs ys v reliabilities c x one) (sym eb)
+      (subst (λ (w : List ℕ). Brought xs ys newBits w c x one) (sym er) (newly one e bi l))
+
+pub stepped : (xs ys bits reliabilities : List ℕ) (c : Numbers) (x : Input) (one : Numbers) → Brought xs ys bits reliabilities c x one → drain 3 (search (viewOf bits reliabilities one)) ≡ step x (viewOf xs ys c)
+unfolding step
+stepped xs ys bits reliabilities c x one b = ap (λ (m : State). drain 3 (search m)) (b .same)
 
 pub steady-two : (xs : List ℕ) (c r : Numbers) → Steady c → Searched xs c r → Steady r
 steady-two xs c r st s = record { sound = s .sound; low = s .low; slips = omega (arith, s .slips, s .frames, st .slips); fails = s .fails }

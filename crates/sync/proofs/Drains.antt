@@ -9,10 +9,11 @@ use lib.ListN.{length}
 use lib.Seq.{sets}
 use Rattle.sync.specs.declared.numbers.Numbers.{Numbers}
 use Rattle.sync_rules.specs.declared.Head.{Head}
+use Rattle.sync.specs.declared.frames.Drained.{Drained}
 use Rattle.sync.specs.declared.frames.Framed.{Framed}
 use Rattle.sync.specs.declared.frames.Readiness.{Readiness}
 use Rattle.sync.specs.View.{Few, viewOf, Steady}
-use Rattle.sync.specs.Steps.{headsOf, Looked, SentBy, DrainedBy, headOf}
+use Rattle.sync.specs.Steps.{headsOf, Looked, SentBy, DrainedBy, drainedOf, headOf}
 use Rattle.sync_rules.specs.State.{State}
 use Rattle.sync_rules.specs.Frames.{Frame, Sent, ready, send}
 use Rattle.sync_rules.specs.Pushes.{Out, drain}
@@ -77,3 +78,8 @@ module _ (bits reliabilities : List ℕ) where
         figures = ap₂ (λ (x : Head) (l : List Head). x ∷ l) (head-eq (f .head) (send M .frame) (s .head .0) (s .head .1) (s .head .2)) (d′ .figures);
         stored = d′ .stored ∙ ap (λ (z : List ℕ). laid z (suc k) (drain n (send M .next) .sent)) (s .laid);
       })
+
+-- as a function hands them back
+pub drained-as : (bits reliabilities room room′ : List ℕ) (k n : ℕ) (o : Out) (numbers : Numbers) (count : ℕ) (heads : List Head) (r : Drained) → r ≡ drainedOf numbers count heads
+    → DrainedBy bits reliabilities room room′ k n o numbers count heads → DrainedBy bits reliabilities room room′ k n o (r .numbers) (r .count) (r .heads)
+drained-as bits reliabilities room room′ k n o numbers count heads r e d = subst (λ (z : Drained). DrainedBy bits reliabilities room room′ k n o (z .numbers) (z .count) (z .heads)) (sym e) d

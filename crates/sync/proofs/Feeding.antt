@@ -11,20 +11,21 @@ use native.Mathlib.Omega.{arith}
 use lib.ListN.{length, take, drop, drop-of-length-le}
 use Rattle.bits.specs.declared.Refusal.{Refusal}
 use Rattle.sync.specs.declared.numbers.Numbers.{Numbers}
-use Rattle.sync.specs.declared.pushes.Into.{Into}
+use Rattle.sync.specs.declared.frames.Drained.{Drained}
+use Rattle.sync.specs.declared.feeds.Into.{Into}
 use Rattle.sync.specs.declared.Push.{Push}
 use Rattle.sync.specs.declared.Push.the-variants.{Taken, Refused}
 use Rattle.sync.specs.declared.Fed.{Fed}
-use Rattle.sync_rules.specs.declared.Head.{Head}
-use Rattle.sync.specs.View.{viewOf, Steady, Few, Rings, Valid}
-use Rattle.sync.specs.Steps.{headsOf, DrainedBy}
-use Rattle.sync.specs.Answers.{answerTo, pushOf, takes, PushedInto}
-use Rattle.sync.specs.Feeds.{FedOut, oneMore, unlessSent, unlessRefused, fedOf, FedBy, FeedRule, feedRules}
+use Rattle.sync.specs.View.{viewOf, Steady, Few, Rings}
+use Rattle.sync.specs.Steps.{headsOf, nothingOf, DrainedBy}
+use Rattle.sync.specs.Answers.{answerTo, pushOf, takes}
+use Rattle.sync.specs.Feeds.{FedOut, oneMore, unlessSent, unlessRefused, fedOf, FedInto, FedBy, fedWith, intoOf, FeedRule, feedRules}
 use Rattle.sync_rules.specs.State.{State, Input}
 use Rattle.sync_rules.specs.Frames.{Frame}
 use Rattle.sync_rules.specs.Pushes.{Out, step, run}
 use Rattle.sync_rules.specs.Room.{laid}
 use Rattle.sync_rules.proofs.Taken.{step-taken}
+use Rattle.sync.proofs.Answering.{PushedInto, is-taken}
 
 -- ---- the rule
 list-head : (x y : Input) (xs ys : List Input) → _≡_ {A = List Input} (x ∷ xs) (y ∷ ys) → x ≡ y
@@ -130,11 +131,6 @@ unfolding pushOf takes
 taken-sends Taken x m e = refl
 taken-sends (Refused f) x m e = absurd (omega (arith, ap takes e))
 
-pub takes-few : (a : Push) → takes a ≤ 1
-unfolding takes
-takes-few Taken = omega arith
-takes-few (Refused f) = omega arith
-
 -- ---- the loop of a feed: n pushes were made, nothing was sent and nothing refused
 pub further : ℕ → FedOut → FedOut
 further n o = record { used = n + o .used; answer = o .answer; sent = o .sent; next = o .next }
@@ -158,11 +154,18 @@ pub record Feeding (xs : List Input) (room₀ : List ℕ) (m₀ : State) (room b
   pub counted : numbers .taken ≡ m₀ .taken + used
   pub ahead : fedOf (length room₀) xs m₀ ≡ further used (fedOf (length room₀) (drop used xs) (viewOf bits reliabilities numbers))
 
+-- what a feed hands back
+pub fed-by : (bits reliabilities room room′ : List ℕ) (o : FedOut) (d : Into) → FedInto bits reliabilities room room′ o d → (r : Fed) → r ≡ fedWith bits reliabilities d → FedBy room room′ o r
+fed-by bits reliabilities room room′ o d f r e =
+    let g = f .drained in
+    subst (λ (z : Fed). FedBy room room′ o z) (sym e)
+    (record { used = f .used; answer = f .answer; valid = record { steady = g .steady; binary = f .rings .binary; few = g .few }; next = g .next; many = g .many; figures = g .figures; stored = g .stored })
+
+pub fed-as : (bits reliabilities room room′ : List ℕ) (o : FedOut) (a : Push) (n : ℕ) (d : Drained) (r : Into) → r ≡ intoOf a n d → FedInto bits reliabilities room room′ o (intoOf a n d) → FedInto bits reliabilities room room′ o r
+fed-as bits reliabilities room room′ o a n d r e f = subst (λ (z : Into). FedInto bits reliabilities room room′ o z) (sym e) f
+
 pub feed-starts : (xs : List Input) (room bits reliabilities : List ℕ) (numbers : Numbers) → Steady numbers → Rings bits reliabilities → Few numbers → Feeding xs room (viewOf bits reliabilities numbers) room bits reliabilities numbers 0
 feed-starts xs room bits reliabilities numbers st rs fw = record { same-room = refl; steady = st; rings = rs; few = fw; counted = omega arith; ahead = further-zero (fedOf (length room) xs (viewOf bits reliabilities numbers)) }
-
-abbrev pub fed : ℕ → Push → ℕ → List Head → List ℕ → List ℕ → Numbers → Fed
-fed used answer count heads bits reliabilities numbers = record { used = used; pushed = record { answer = answer; count = count; heads = heads; next = record { bits = bits; reliabilities = reliabilities; numbers = numbers } } }
 
 module _ (xs : List Input) (room₀ : List ℕ) (m₀ : State) (room bits reliabilities : List ℕ) (numbers : Numbers) (used : ℕ) (F : Feeding xs room₀ m₀ room bits reliabilities numbers used) where
   abbrev W : FedOut
@@ -172,70 +175,78 @@ module _ (xs : List Input) (room₀ : List ℕ) (m₀ : State) (room bits reliab
   M = viewOf bits reliabilities numbers
 
   -- at the end
-  pub feed-ends : length xs ≤ used → FedBy room₀ room W (fed used Taken 0 (headsOf 3 []) bits reliabilities numbers)
+  at-end : length xs ≤ used → FedInto bits reliabilities room₀ room W (intoOf Taken used (nothingOf numbers))
   unfolding fedOf further laid
-  feed-ends h =
-      subst (λ (o : FedOut). FedBy room₀ room o (fed used Taken 0 (headsOf 3 []) bits reliabilities numbers))
+  at-end h =
+      subst (λ (o : FedOut). FedInto bits reliabilities room₀ room o (intoOf Taken used (nothingOf numbers)))
       (sym (F .ahead ∙ ap (λ (l : List Input). further used (fedOf (length room₀) l M)) (drop-of-length-le xs h)))
-      (record { used = sym (add-zero used); answer = refl; valid = record { steady = F .steady; binary = F .rings .binary; few = F .few }; next = refl; many = refl; figures = refl; stored = F .same-room })
+      (record { used = sym (add-zero used); answer = refl; rings = F .rings; drained = record { steady = F .steady; few = F .few; next = refl; many = refl; figures = refl; stored = F .same-room } })
+
+  pub feed-ends : length xs ≤ used → (d : Drained) → d ≡ nothingOf numbers → FedInto bits reliabilities room₀ room W (intoOf Taken used d)
+  feed-ends h d e = subst (λ (z : Drained). FedInto bits reliabilities room₀ room W (intoOf Taken used z)) (sym e) (at-end h)
 
   -- one push more
-  module _ (x : Input) (more : drop used xs ≡ x ∷ drop (suc used) xs) (bits′ reliabilities′ room′ : List ℕ) (r : Into) (P : PushedInto bits reliabilities bits′ reliabilities′ room room′ numbers x r) where
+  module _ (x : Input) (more : drop used xs ≡ x ∷ drop (suc used) xs) (bits′ reliabilities′ room′ : List ℕ) (a : Push) (d : Drained) (P : PushedInto bits reliabilities bits′ reliabilities′ room room′ numbers x a d) where
     split : W ≡ further used (fedOf (length room₀) (x ∷ drop (suc used) xs) M)
     split = F .ahead ∙ ap (λ (l : List Input). further used (fedOf (length room₀) l M)) more
 
-    same-answer : r .answer ≡ answerTo (length room₀) x M
+    same-answer : a ≡ answerTo (length room₀) x M
     same-answer = P .answer ∙ ap (λ (l : List ℕ). answerTo (length l) x M) (F .same-room)
 
-    -- a push that the feed goes on after was made
-    pub feed-takes : r .stops ≡ false → r .took ≡ 1
-    unfolding takes
-    feed-takes w = P .took ∙ ap takes (P .goes-on w .0)
-
-    pub feed-stops : r .stops ≡ true → FedBy room₀ room′ W (fed (used + r .took) (r .answer) (r .count) (r .heads) bits′ reliabilities′ (r .numbers))
+    -- a push that the feed stops at
+    stops : (a ≡ Taken → 0 < d .count) → (n : ℕ) → n ≡ used + takes a → FedInto bits′ reliabilities′ room₀ room′ W (intoOf a n d)
     unfolding further stopped
-    feed-stops t =
+    stops h n en =
         let D = P .drained in
-        let e : length room₀ ≡ length room = ap length (sym (F .same-room)) in
-        subst (λ (o : FedOut). FedBy room₀ room′ o (fed (used + r .took) (r .answer) (r .count) (r .heads) bits′ reliabilities′ (r .numbers)))
-        (sym (split ∙ ap (further used) (ap (λ (n : ℕ). fedOf n (x ∷ drop (suc used) xs) M) e ∙ fed-stops (length room) x (drop (suc used) xs) M (λ a. sends a))))
+        subst (λ (o : FedOut). FedInto bits′ reliabilities′ room₀ room′ o (intoOf a n d))
+        (sym (split ∙ ap (further used) (fed-stops (length room₀) x (drop (suc used) xs) M (λ t. sends (same-answer ∙ t)) ∙ ap (λ (b : Push). stopped (length room₀) x (drop (suc used) xs) M b (pushOf b x M)) (sym same-answer))))
         (record {
-          used = ap (λ (n : ℕ). used + n) (P .took ∙ ap takes (P .answer));
-          answer = P .answer;
-          valid = record { steady = D .steady; binary = P .rings .binary; few = D .few };
-          next = D .next;
-          many = D .many;
-          figures = D .figures;
-          stored = D .stored ∙ ap (λ (l : List ℕ). laid l 0 (pushOf (answerTo (length room) x M) x M .sent)) (F .same-room);
+          used = en;
+          answer = refl;
+          rings = P .rings;
+          drained = record { steady = D .steady; few = D .few; next = D .next; many = D .many; figures = D .figures; stored = D .stored ∙ ap (λ (l : List ℕ). laid l 0 (pushOf a x M .sent)) (F .same-room) };
         })
       where
-        sends : answerTo (length room) x M ≡ Taken → 0 < length (step x M .sent)
-        sends a = omega (arith, P .stops t (P .answer ∙ a), P .drained .many, ap (λ (o : Out). length (o .sent)) (taken-sends (answerTo (length room) x M) x M a))
+        sends : a ≡ Taken → 0 < length (step x M .sent)
+        sends t = omega (arith, h t, P .drained .many, ap (λ (o : Out). length (o .sent)) (taken-sends a x M t))
 
-    quiet : r .stops ≡ false → (step x M .sent ≡ []) × (viewOf bits′ reliabilities′ (r .numbers) ≡ step x M .next)
-    quiet w =
-        let g = P .goes-on w in
-        let e : pushOf (answerTo (length room) x M) x M ≡ step x M = taken-sends (answerTo (length room) x M) x M (sym (P .answer) ∙ g .0) in
-        (none-of (step x M .sent) (ap (λ (o : Out). length (o .sent)) (sym e) ∙ sym (P .drained .many) ∙ g .1), P .drained .next ∙ ap (λ (o : Out). o .next) e)
+    pub feed-refused : takes a ≡ 0 → FedInto bits′ reliabilities′ room₀ room′ W (intoOf a used d)
+    unfolding takes
+    feed-refused z = stops (λ t. absurd (omega (arith, z, ap takes t))) used (omega (arith, z))
 
-    stepped-taken : (z : State) → z .taken ≡ M .taken + 1 → viewOf bits′ reliabilities′ (r .numbers) ≡ z → r .numbers .taken ≡ numbers .taken + 1
-    stepped-taken z h e = ap (λ (s : State). s .taken) e ∙ h
+    module _ (made : takes a ≡ 0 → ⊥) where
+      taken : a ≡ Taken
+      taken = is-taken a made
 
-    pub feed-goes-on : r .stops ≡ false → Feeding xs room₀ m₀ room′ bits′ reliabilities′ (r .numbers) (used + r .took)
-    unfolding laid takes
-    feed-goes-on w =
-        let g = P .goes-on w in
-        let q = quiet w in
-        let one : used + r .took ≡ used + 1 = ap (λ (n : ℕ). used + n) (P .took ∙ ap takes (g .0)) in
-        let e : pushOf (answerTo (length room) x M) x M ≡ step x M = taken-sends (answerTo (length room) x M) x M (sym (P .answer) ∙ g .0) in
-        subst (λ (n : ℕ). Feeding xs room₀ m₀ room′ bits′ reliabilities′ (r .numbers) n) (sym one)
-        (record {
-          same-room = P .drained .stored ∙ ap (laid room 0) (ap (λ (o : Out). o .sent) e ∙ q .0) ∙ F .same-room;
-          steady = P .drained .steady;
-          rings = P .rings;
-          few = P .drained .few;
-          counted = omega (arith, F .counted, stepped-taken (step x M .next) (step-taken x M) (q .1));
-          ahead = split ∙ ap (further used) (fed-silent (length room₀) x (drop (suc used) xs) M (sym same-answer ∙ g .0) (q .0))
-              ∙ further-more used _
-              ∙ ap₂ (λ (n : ℕ) (m : State). further (used + 1) (fedOf (length room₀) (drop n xs) m)) (sym (add-one used)) (sym (q .1));
-        })
+      one : used + 1 ≡ used + takes a
+      unfolding takes
+      one = ap (λ (b : Push). used + takes b) (sym taken)
+
+      pub feed-sent : 0 < d .count → FedInto bits′ reliabilities′ room₀ room′ W (intoOf a (used + 1) d)
+      feed-sent h = stops (λ t. h) (used + 1) one
+
+      same-out : pushOf a x M ≡ step x M
+      same-out = taken-sends a x M taken
+
+      quiet : d .count ≡ 0 → step x M .sent ≡ []
+      quiet z = none-of (step x M .sent) (ap (λ (o : Out). length (o .sent)) (sym same-out) ∙ sym (P .drained .many) ∙ z)
+
+      next : viewOf bits′ reliabilities′ (d .numbers) ≡ step x M .next
+      next = P .drained .next ∙ ap (λ (o : Out). o .next) same-out
+
+      stepped-taken : (z : State) → z .taken ≡ M .taken + 1 → viewOf bits′ reliabilities′ (d .numbers) ≡ z → d .numbers .taken ≡ numbers .taken + 1
+      stepped-taken z h e = ap (λ (s : State). s .taken) e ∙ h
+
+      pub feed-goes-on : d .count ≡ 0 → Feeding xs room₀ m₀ room′ bits′ reliabilities′ (d .numbers) (used + 1)
+      unfolding laid
+      feed-goes-on z =
+          record {
+            same-room = P .drained .stored ∙ ap (laid room 0) (ap (λ (o : Out). o .sent) same-out ∙ quiet z) ∙ F .same-room;
+            steady = P .drained .steady;
+            rings = P .rings;
+            few = P .drained .few;
+            counted = omega (arith, F .counted, stepped-taken (step x M .next) (step-taken x M) next);
+            ahead = split ∙ ap (further used) (fed-silent (length room₀) x (drop (suc used) xs) M (sym same-answer ∙ taken) (quiet z))
+                ∙ further-more used _
+                ∙ ap₂ (λ (n : ℕ) (m : State). further (used + 1) (fedOf (length room₀) (drop n xs) m)) (sym (add-one used)) (sym next);
+          }

@@ -254,7 +254,7 @@ first-shown (f ∷ fs) p q = ap (λ (n : ℕ). n + 384 + (q - p)) (last-shown (f
 record Shape (I : List Input) (P : ℕ) (F G : List Got) : Type 0 where
   early : (later : List Input) (q : ℕ) → FirstLock (stream (I ++ later)) P q → length (stream I) ≤ q + 1151 → G ≡ []
   never : ((i : ℕ) → P ≤ i → i + 1152 ≤ length (stream I) → locksAt (stream I) i ≡ false) → G ≡ []
-  exact : (q k : ℕ) → FirstLock (stream I) P q → 3 ≤ k → q + 384 * k ≤ length (stream I) → ((j : ℕ) → j < k → inPlace (stream I) (q + 384 * j) ≡ true) → take k G ≡ gotInARow (stream I) q (firstGot F P q) k
+  exact : (q k : ℕ) → FirstLock (stream I) P q → q + 384 * k ≤ length (stream I) → ((j : ℕ) → j < k → inPlace (stream I) (q + 384 * j) ≡ true) → take k G ≡ gotInARow (stream I) q (firstGot F P q) k
 
 none-shown : shownAs [] ≡ []
 unfolding shownAs
@@ -265,7 +265,7 @@ shaped A B d =
     record {
       early = λ later q f l. ap shownAs (d .early later q f l) ∙ none-shown;
       never = λ w. ap shownAs (d .never w) ∙ none-shown;
-      exact = λ q k f t l row. shown-figures (stream (A ++ B)) q (firstOffset (sentBy [] A) (placeOf A) q) k (sentBy A B) (d .exact q k f t l row) ∙ ap (λ (o : ℕ). gotInARow (stream (A ++ B)) q o k) (sym (first-shown (sentBy [] A) (placeOf A) q));
+      exact = λ q k f l row. shown-figures (stream (A ++ B)) q (firstOffset (sentBy [] A) (placeOf A) q) k (sentBy A B) (d .exact q k f l row) ∙ ap (λ (o : ℕ). gotInARow (stream (A ++ B)) q o k) (sym (first-shown (sentBy [] A) (placeOf A) q));
     }
 
 -- a push that sends a frame and ends with no lock has ended a lock

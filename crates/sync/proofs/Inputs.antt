@@ -2,12 +2,16 @@
 -- Assumes nothing.
 use mathlib.Core.Path.{_≡_, refl, sym, ap, ap₂, _∙_, subst}
 use mathlib.Core.List.{List, [], _∷_, map}
-use mathlib.Core.Bool.{true}
+use mathlib.Core.Bool.{true, true≢false}
 use Prim.Native.Nat.{ℕ, zero, suc, _+_, _-_, _*_, _/_, _%_, _≤_, _<_, min}
 use native.Mathlib.Omega.{arith}
 use lib.ListN.{length, getD, drop, length-drop}
 use lib.Seq.{drop-drop}
-use Rattle.sync.specs.Feeds.{hardly, softly, unpacked}
+use Rattle.sync.specs.declared.pushes.Given.{Given}
+use Rattle.sync.specs.declared.feeds.Source.{Source}
+use Rattle.sync.specs.declared.feeds.Source.the-variants.{Hard, Soft, Packed}
+use Rattle.sync.specs.Feeds.{hardly, softly, unpacked, inputsOf, noneGiven, GivenBy}
+use Rattle.sync.specs.Steps.{hardGiven, softGiven}
 use Rattle.sync_rules.specs.State.{Input, hard}
 
 pub length-hardly : (ds : List ℕ) → length (hardly ds) ≡ length ds
@@ -85,3 +89,30 @@ packed-next bs start used i k e h l =
 
 pub length-packed : (bs : List ℕ) (start : ℕ) → length (hardly (drop start (unpacked bs))) ≡ 4 * length bs - start
 length-packed bs start = length-hardly (drop start (unpacked bs)) ∙ length-drop start (unpacked bs) ∙ ap (λ (n : ℕ). n - start) (length-unpacked bs)
+
+-- ---- a push of a source
+pub one-left : (xs : List Input) (n : ℕ) (g : Given) → GivenBy xs n g → g .more ≡ true → n < length xs
+one-left xs n g h t = omega (arith, ap length (h .next t), length-drop n xs)
+
+module _ (xs : List Input) (n : ℕ) (g : Given) where
+  pub gives-hard : (d : ℕ) → g ≡ hardGiven d → drop n xs ≡ hard d ∷ drop (suc n) xs → GivenBy xs n g
+  gives-hard d e h = subst (λ (z : Given). GivenBy xs n z) (sym e) (record { next = λ w. h; ended = λ w. absurd (true≢false w) })
+
+  pub gives-soft : (d a b : ℕ) → g ≡ softGiven d a b → drop n xs ≡ record { dibit = d; ofFirst = a; ofSecond = b; soft = true } ∷ drop (suc n) xs → GivenBy xs n g
+  gives-soft d a b e h = subst (λ (z : Given). GivenBy xs n z) (sym e) (record { next = λ w. h; ended = λ w. absurd (true≢false w) })
+
+  pub gives-none : g ≡ noneGiven → length xs ≤ n → GivenBy xs n g
+  gives-none e h = subst (λ (z : Given). GivenBy xs n z) (sym e) (record { next = λ w. absurd (true≢false (sym w)); ended = λ w. h })
+
+module _ (s : Source) (dibits reliable : List ℕ) (start n : ℕ) (g : Given) where
+  pub of-hard : s ≡ Hard → GivenBy (hardly dibits) n g → GivenBy (inputsOf s dibits reliable start) n g
+  unfolding inputsOf
+  of-hard e h = subst (λ (z : Source). GivenBy (inputsOf z dibits reliable start) n g) (sym e) h
+
+  pub of-soft : s ≡ Soft → GivenBy (softly dibits reliable) n g → GivenBy (inputsOf s dibits reliable start) n g
+  unfolding inputsOf
+  of-soft e h = subst (λ (z : Source). GivenBy (inputsOf z dibits reliable start) n g) (sym e) h
+
+  pub of-packed : s ≡ Packed → GivenBy (hardly (drop start (unpacked dibits))) n g → GivenBy (inputsOf s dibits reliable start) n g
+  unfolding inputsOf
+  of-packed e h = subst (λ (z : Source). GivenBy (inputsOf z dibits reliable start) n g) (sym e) h

@@ -10,6 +10,7 @@ pub mod Sends
 pub mod Looks
 pub mod Drains
 pub mod Bringing
+pub mod Quiets
 pub mod Answering
 pub mod Feeding
 pub mod Inputs

@@ -3,14 +3,19 @@
 use mathlib.Core.Path.{_≡_}
 use mathlib.Core.Logic.{_⊎_}
 use mathlib.Core.List.{List, [], _∷_, _++_, map}
-use mathlib.Core.Bool.{true}
+use mathlib.Core.Bool.{true, false}
 use Prim.Native.Nat.{ℕ, zero, suc, _+_, _/_, _%_, _≤_, _<_}
 use lib.ListN.{length, take, drop}
 use Rattle.sync.specs.declared.Push.{Push}
 use Rattle.sync.specs.declared.Push.the-variants.{Taken, Refused}
 use Rattle.sync.specs.declared.Fed.{Fed}
-use Rattle.sync.specs.View.{Valid, view}
-use Rattle.sync.specs.Steps.{headsOf}
+use Rattle.sync.specs.declared.pushes.Given.{Given}
+use Rattle.sync.specs.declared.frames.Drained.{Drained}
+use Rattle.sync.specs.declared.feeds.Into.{Into}
+use Rattle.sync.specs.declared.feeds.Source.{Source}
+use Rattle.sync.specs.declared.feeds.Source.the-variants.{Hard, Soft, Packed}
+use Rattle.sync.specs.View.{Valid, view, Rings}
+use Rattle.sync.specs.Steps.{headsOf, inputOf, DrainedBy}
 use Rattle.sync.specs.Answers.{answerTo, takes}
 use Rattle.sync_rules.specs.State.{State, Input, hard}
 use Rattle.sync_rules.specs.Frames.{Frame}
@@ -34,6 +39,21 @@ softly (d ∷ ds) (a ∷ b ∷ rs) = record { dibit = d; ofFirst = a; ofSecond =
 unfoldable pub unpacked : List ℕ → List ℕ
 unpacked [] = []
 unpacked (b ∷ bs) = b / 64 % 4 ∷ b / 16 % 4 ∷ b / 4 % 4 ∷ b % 4 ∷ unpacked bs
+
+-- those of a source; `reliable` is read of a soft one, `start` of a packed one
+unfoldable pub inputsOf : Source → List ℕ → List ℕ → ℕ → List Input
+unfolding softly unpacked
+inputsOf Hard dibits reliable start = hardly dibits
+inputsOf Soft dibits reliable start = softly dibits reliable
+inputsOf Packed dibits reliable start = hardly (drop start (unpacked dibits))
+
+abbrev pub noneGiven : Given
+noneGiven = record { more = false; dibit = 0; first = 0; second = 0; soft = false }
+
+-- g is push n of xs, or there is none
+pub record GivenBy (xs : List Input) (n : ℕ) (g : Given) : Type 0 where
+  pub next : g .more ≡ true → drop n xs ≡ inputOf g ∷ drop (suc n) xs
+  pub ended : g .more ≡ false → length xs ≤ n
 
 -- ---- what a feed of them does
 
@@ -73,6 +93,20 @@ pub record FedBy (room room′ : List ℕ) (o : FedOut) (r : Fed) : Type 0 where
   pub many : r .pushed .count ≡ length (o .sent)
   pub figures : r .pushed .heads ≡ headsOf 3 (o .sent)
   pub stored : room′ ≡ laid room 0 (o .sent)
+
+abbrev pub intoOf : Push → ℕ → Drained → Into
+intoOf a n d = record { answer = a; took = n; drained = d }
+
+-- the same into rings lent in place
+pub record FedInto (bits′ reliabilities′ room room′ : List ℕ) (o : FedOut) (r : Into) : Type 0 where
+  pub used : r .took ≡ o .used
+  pub answer : r .answer ≡ o .answer
+  pub rings : Rings bits′ reliabilities′
+  pub drained : DrainedBy bits′ reliabilities′ room room′ 0 3 (record { sent = o .sent; next = o .next }) (r .drained .numbers) (r .drained .count) (r .drained .heads)
+
+-- what is handed back of it
+abbrev pub fedWith : List ℕ → List ℕ → Into → Fed
+fedWith bits reliabilities d = record { used = d .took; pushed = record { answer = d .answer; count = d .drained .count; heads = d .drained .heads; next = record { bits = bits; reliabilities = reliabilities; numbers = d .drained .numbers } } }
 
 -- ---- the same by the pushes made: no frame is lost and nothing is pushed twice
 

@@ -30,7 +30,7 @@ pub record DemandCalls (s : Synchroniser) (before after : List Call) : Type 0 wh
       → handed after ≡ []
   pub never : ((i : ℕ) → placeIn s before ≤ i → i + 1152 ≤ length (streamOf (before ++ after)) → locksAt (streamOf (before ++ after)) i ≡ false)
       → handed after ≡ []
-  pub exact : (q k : ℕ) → FirstLock (streamOf (before ++ after)) (placeIn s before) q → 3 ≤ k
+  pub exact : (q k : ℕ) → FirstLock (streamOf (before ++ after)) (placeIn s before) q
       → q + 384 * k ≤ length (streamOf (before ++ after))
       → ((j : ℕ) → j < k → inPlace (streamOf (before ++ after)) (q + 384 * j) ≡ true)
       → take k (handed after) ≡ gotInARow (streamOf (before ++ after)) q (firstGot (handed before) (placeIn s before) q) k

@@ -3,19 +3,21 @@
 use mathlib.Core.Path.{_≡_}
 use mathlib.Core.List.{List, [], _∷_, _++_}
 use mathlib.Core.Bool.{Bool, true, false, _||_}
-use Prim.Native.Nat.{ℕ, zero, suc, _+_, _-_, _*_, _≤_}
+use Prim.Native.Nat.{ℕ, zero, suc, _+_, _-_, _*_, _≤_, _<_}
 use lib.ListN.{length}
 use lib.Seq.{sets}
 use Rattle.sync.specs.declared.numbers.Numbers.{Numbers}
+use Rattle.sync.specs.declared.frames.Drained.{Drained}
 use Rattle.sync.specs.declared.frames.Framed.{Framed}
 use Rattle.sync.specs.declared.frames.Readiness.{Readiness}
+use Rattle.sync.specs.declared.pushes.Given.{Given}
 use Rattle.sync_rules.specs.declared.Head.{Head}
 use Rattle.sync.specs.Ring.{ring}
-use Rattle.sync.specs.View.{viewOf, Sound, Low, Steady, Few}
+use Rattle.sync.specs.View.{viewOf, Sound, Low, Steady, Few, Rings}
 use Rattle.sync_rules.specs.Matching.{inPlace}
-use Rattle.sync_rules.specs.State.{State, pass, restore}
+use Rattle.sync_rules.specs.State.{State, Input, pass, restore, bring}
 use Rattle.sync_rules.specs.Frames.{Frame, Sent, ready, frontMove, follow, leave}
-use Rattle.sync_rules.specs.Pushes.{Out, search}
+use Rattle.sync_rules.specs.Pushes.{Out, search, drain}
 use Rattle.sync_rules.specs.Room.{bytesOf, laid}
 
 -- k bits passed, over any rings
@@ -32,6 +34,27 @@ pub record Restored (c r : Numbers) : Type 0 where
 
 abbrev pub appendedTo : Numbers → Bool → Numbers
 appendedTo c soft = record { first = c .first; restorable = c .restorable; pending = c .pending + 2; taken = c .taken + 1; clock = c .clock; later = c .later; earlier = c .earlier; frames = c .frames; synchronised = c .synchronised; failures = c .failures; locked = c .locked; soft = c .soft || soft }
+
+-- what a push brings
+abbrev pub inputOf : Given → Input
+inputOf g = record { dibit = g .dibit; ofFirst = g .first; ofSecond = g .second; soft = g .soft }
+
+abbrev pub hardGiven : ℕ → Given
+hardGiven d = record { more = true; dibit = d; first = 255; second = 255; soft = false }
+
+abbrev pub softGiven : ℕ → ℕ → ℕ → Given
+softGiven d a b = record { more = true; dibit = d; first = a; second = b; soft = true }
+
+-- the two bits of the push x brought into the rings
+pub record Brought (bits reliabilities bits′ reliabilities′ : List ℕ) (c : Numbers) (x : Input) (r : Numbers) : Type 0 where
+  pub numbers : r ≡ appendedTo c (x .soft)
+  pub steady : Steady r
+  pub rings : Rings bits′ reliabilities′
+  pub same : viewOf bits′ reliabilities′ r ≡ bring x (viewOf bits reliabilities c)
+
+-- too few bits are pending for a frame, and without a lock for a search
+abbrev pub Waiting : Numbers → Type 0
+Waiting c = (c .locked ≡ true → c .pending < 384) × (c .pending ≤ 1151)
 
 -- c with these counts of slips
 abbrev pub withMoves : Numbers → ℕ → ℕ → Numbers
@@ -121,3 +144,14 @@ pub record DrainedBy (bits reliabilities room room′ : List ℕ) (k n : ℕ) (o
   pub many : count ≡ length (o .sent)
   pub figures : heads ≡ headsOf n (o .sent)
   pub stored : room′ ≡ laid room k (o .sent)
+
+abbrev pub drainedOf : Numbers → ℕ → List Head → Drained
+drainedOf c count heads = record { numbers = c; count = count; heads = heads }
+
+-- no frame
+abbrev pub nothingOf : Numbers → Drained
+nothingOf c = drainedOf c 0 (headsOf 3 [])
+
+-- the search and the frames of a push whose bits are brought
+abbrev pub SentAfter : List ℕ → List ℕ → List ℕ → List ℕ → Numbers → Drained → Type 0
+SentAfter bits reliabilities room room′ c r = DrainedBy bits reliabilities room room′ 0 3 (drain 3 (search (viewOf bits reliabilities c))) (r .numbers) (r .count) (r .heads)

@@ -6,7 +6,7 @@ ghost use lib.ListN.{length};
 ghost use Rattle.bits.specs.Bit.{Bits};
 ghost use Rattle.sync.specs.Ring.{ring};
 ghost use Rattle.sync.specs.View.{Sound, Low, Steady, viewOf};
-ghost use Rattle.sync.specs.Steps.{Fronted, Sendable, SentBy, Ready, Looked, DrainedBy};
+ghost use Rattle.sync.specs.Steps.{Fronted, Sendable, SentBy, Ready, Looked, DrainedBy, drainedOf, nothingOf};
 ghost use Rattle.sync_rules.specs.Matching.{inPlace};
 ghost use Rattle.sync_rules.specs.Frames.{sendAt, send};
 ghost use Rattle.sync_rules.specs.Pushes.{drain};
@@ -162,6 +162,33 @@ fn look(bits: &[u8; 1155], c: Numbers) -> Readiness
     }
 }
 
+// These frames.
+fn frames_out(numbers: Numbers, count: usize, heads: [Head; 3]) -> Drained
+    ensures { λ r. ⌜ r ≡ drainedOf numbers count heads ⌝ }
+{
+    Drained {
+        numbers,
+        count,
+        heads,
+    }
+}
+
+// No frame.
+pub(crate) fn nothing(numbers: Numbers) -> Drained
+    ensures { λ r. ⌜ r ≡ nothingOf numbers ⌝ }
+{
+    let none = Head {
+        offset: 0,
+        matched: false,
+        errors: 0,
+    };
+    Drained {
+        numbers,
+        count: 0,
+        heads: [none; 3],
+    }
+}
+
 // Up to three frames, once a frame's bits are pending.
 fn three<'a>(
     bits: &'a [u8; 1155],
@@ -192,33 +219,17 @@ fn three<'a>(
                 let h = frame(bits, reliabilities, c2, &mut *room, 864, d.placed);
                 let c3 = h.numbers;
                 let h3 = h.head;
-                return Drained {
-                    numbers: c3,
-                    count: 3,
-                    heads: [h1, h2, h3],
-                };
+                return frames_out(c3, 3, [h1, h2, h3]);
             }
-            return Drained {
-                numbers: c2,
-                count: 2,
-                heads: [h1, h2, none],
-            };
+            return frames_out(c2, 2, [h1, h2, none]);
         }
-        return Drained {
-            numbers: c1,
-            count: 1,
-            heads: [h1, none, none],
-        };
+        return frames_out(c1, 1, [h1, none, none]);
     }
-    Drained {
-        numbers: c,
-        count: 0,
-        heads: [none; 3],
-    }
+    nothing(c)
 }
 
 // Up to three frames, while one is ready. Most pushes end before a frame could be.
-pub fn drain<'a>(
+pub(crate) fn drain<'a>(
     bits: &'a [u8; 1155],
     reliabilities: &'a [u8; 1155],
     c: Numbers,
@@ -231,15 +242,7 @@ pub fn drain<'a>(
         if 384 <= c.pending {
             return three(bits, reliabilities, c, room);
         }
+        return nothing(c);
     }
-    let none = Head {
-        offset: 0,
-        matched: false,
-        errors: 0,
-    };
-    Drained {
-        numbers: c,
-        count: 0,
-        heads: [none; 3],
-    }
+    nothing(c)
 }

@@ -2,13 +2,13 @@
 // Each push takes the state by value and hands back the next one beside the heads of its frames; envelopes and reliabilities go into the lent room.
 ghost use mathlib.Core.Path.{_≡_};
 ghost use mathlib.Core.Bool.{true, false};
-ghost use mathlib.Core.List.{[], _∷_};
-ghost use Prim.Native.Nat.{_+_, _/_, _^_, _<_, min};
+ghost use Prim.Native.Nat.{_^_, _<_};
 ghost use lib.IntN.{subℕ};
-ghost use lib.ListN.{length, getD, drop};
+ghost use lib.ListN.{length, drop};
 ghost use Rattle.sync.specs.View.{Valid, view};
-ghost use Rattle.sync.specs.Answers.{PushedBy};
-ghost use Rattle.sync.specs.Feeds.{FedBy, fedOf, hardly, softly, unpacked, feedRules};
+ghost use Rattle.sync.specs.Steps.{inputOf};
+ghost use Rattle.sync.specs.Answers.{PushedBy, handedOf};
+ghost use Rattle.sync.specs.Feeds.{FedBy, fedOf, hardly, softly, unpacked, fedWith, feedRules};
 ghost use Rattle.sync_rules.specs.State.{start, hard, pending, slips, netSlip};
 ghost use Rattle.sync_rules.specs.Demand.{demand3};
 ghost use Rattle.sync.specs.Statements.{callsFollow, demandCalls};
@@ -20,10 +20,24 @@ mod markers; // markers.rt: reading the ring of bits
 mod numbers; // numbers.rt: the numbers of a state
 mod room; // room.rt: writing a frame into the lent room
 mod frames; // frames.rt: one frame, and up to three of them
-mod pushes; // pushes.rt: a push into lent rings
+mod pushes; // pushes.rt: the parts of a push
+mod feeds; // feeds.rt: many pushes into lent rings
 
+use feeds::Into;
+use feeds::Source;
+use feeds::feed_into;
+use frames::Drained;
+use frames::nothing;
 use numbers::Numbers;
-use pushes::push_into;
+use numbers::appended;
+use pushes::Given;
+use pushes::answer_to;
+use pushes::enough;
+use pushes::hard_given;
+use pushes::made;
+use pushes::put;
+use pushes::sends;
+use pushes::soft_given;
 
 // The answer to a push.
 pub enum Push {
@@ -83,7 +97,8 @@ impl Synchroniser {
         requires { ⌜ Valid self ⌝ }
         ensures { λ r. ⌜ PushedBy (now (room .entry)) (now (room .exit)) self (hard dibit) r ⌝ }
     {
-        one_push(self, dibit, 255, 255, false, room)
+        let x = hard_given(dibit);
+        one_push(self, x, room)
     }
 
     // A dibit with the reliabilities of its two bits.
@@ -91,7 +106,8 @@ impl Synchroniser {
         requires { ⌜ Valid self ⌝ }
         ensures { λ r. ⌜ PushedBy (now (room .entry)) (now (room .exit)) self (record { dibit = dibit; ofFirst = first; ofSecond = second; soft = true }) r ⌝ }
     {
-        one_push(self, dibit, first, second, true, room)
+        let x = soft_given(dibit, first, second);
+        one_push(self, x, room)
     }
 
     // Hard dibits one after the other, up to the first that sends frames or is refused. `used` of them were taken: the caller goes on with the rest.
@@ -101,56 +117,18 @@ impl Synchroniser {
     {
         let mut bits = self.bits;
         let mut reliabilities = self.reliabilities;
-        let mut numbers = self.numbers;
-        let mut used: usize = 0;
-        while used < dibits.len() {
-            let dibit = dibits[used];
-            let d = push_into(
-                &mut bits,
-                &mut reliabilities,
-                numbers,
-                dibit,
-                255,
-                255,
-                false,
-                &mut *room,
-            );
-            numbers = d.numbers;
-            used += d.took;
-            if d.stops {
-                let answer = d.answer;
-                let heads = d.heads;
-                let next = Synchroniser {
-                    bits,
-                    reliabilities,
-                    numbers,
-                };
-                let pushed = Pushed {
-                    answer,
-                    count: d.count,
-                    heads,
-                    next,
-                };
-                return Fed { used, pushed };
-            }
-        }
-        let none = Head {
-            offset: 0,
-            matched: false,
-            errors: 0,
-        };
-        let next = Synchroniser {
-            bits,
-            reliabilities,
+        let numbers = self.numbers;
+        let d = feed_into(
+            &mut bits,
+            &mut reliabilities,
             numbers,
-        };
-        let pushed = Pushed {
-            answer: Push::Taken,
-            count: 0,
-            heads: [none; 3],
-            next,
-        };
-        Fed { used, pushed }
+            Source::Hard,
+            dibits,
+            dibits,
+            0,
+            room,
+        );
+        feed_answer(bits, reliabilities, d)
     }
 
     // The same with two reliabilities for each dibit, as far as both slices reach.
@@ -158,61 +136,20 @@ impl Synchroniser {
         requires { ⌜ Valid self ⌝ }
         ensures { λ r. ⌜ FedBy (now (room .entry)) (now (room .exit)) (fedOf (length (now (room .entry))) (softly (now (dibits .entry)) (now (reliable .entry))) (view self)) r ⌝ }
     {
-        let most = both_reach(dibits.len(), reliable.len());
         let mut bits = self.bits;
         let mut reliabilities = self.reliabilities;
-        let mut numbers = self.numbers;
-        let mut used: usize = 0;
-        while used < most {
-            let dibit = dibits[used];
-            let first = reliable[2 * used];
-            let second = reliable[2 * used + 1];
-            let d = push_into(
-                &mut bits,
-                &mut reliabilities,
-                numbers,
-                dibit,
-                first,
-                second,
-                true,
-                &mut *room,
-            );
-            numbers = d.numbers;
-            used += d.took;
-            if d.stops {
-                let answer = d.answer;
-                let heads = d.heads;
-                let next = Synchroniser {
-                    bits,
-                    reliabilities,
-                    numbers,
-                };
-                let pushed = Pushed {
-                    answer,
-                    count: d.count,
-                    heads,
-                    next,
-                };
-                return Fed { used, pushed };
-            }
-        }
-        let none = Head {
-            offset: 0,
-            matched: false,
-            errors: 0,
-        };
-        let next = Synchroniser {
-            bits,
-            reliabilities,
+        let numbers = self.numbers;
+        let d = feed_into(
+            &mut bits,
+            &mut reliabilities,
             numbers,
-        };
-        let pushed = Pushed {
-            answer: Push::Taken,
-            count: 0,
-            heads: [none; 3],
-            next,
-        };
-        Fed { used, pushed }
+            Source::Soft,
+            dibits,
+            reliable,
+            0,
+            room,
+        );
+        feed_answer(bits, reliabilities, d)
     }
 
     // Packed bytes, four dibits each, from dibit `start` on. A byte can be cut by a push that sends: the caller goes on with `start + used`.
@@ -222,58 +159,18 @@ impl Synchroniser {
     {
         let mut bits = self.bits;
         let mut reliabilities = self.reliabilities;
-        let mut numbers = self.numbers;
-        let mut used: usize = 0;
-        let mut at: usize = start / 4;
-        while at < bytes.len() {
-            let dibit = dibit_of(bytes[at], (start % 4 + used) % 4);
-            let d = push_into(
-                &mut bits,
-                &mut reliabilities,
-                numbers,
-                dibit,
-                255,
-                255,
-                false,
-                &mut *room,
-            );
-            numbers = d.numbers;
-            used += d.took;
-            if d.stops {
-                let answer = d.answer;
-                let heads = d.heads;
-                let next = Synchroniser {
-                    bits,
-                    reliabilities,
-                    numbers,
-                };
-                let pushed = Pushed {
-                    answer,
-                    count: d.count,
-                    heads,
-                    next,
-                };
-                return Fed { used, pushed };
-            }
-            at = start / 4 + (start % 4 + used) / 4;
-        }
-        let none = Head {
-            offset: 0,
-            matched: false,
-            errors: 0,
-        };
-        let next = Synchroniser {
-            bits,
-            reliabilities,
+        let numbers = self.numbers;
+        let d = feed_into(
+            &mut bits,
+            &mut reliabilities,
             numbers,
-        };
-        let pushed = Pushed {
-            answer: Push::Taken,
-            count: 0,
-            heads: [none; 3],
-            next,
-        };
-        Fed { used, pushed }
+            Source::Packed,
+            bytes,
+            bytes,
+            start,
+            room,
+        );
+        feed_answer(bits, reliabilities, d)
     }
 
     // Whether a lock is held.
@@ -351,71 +248,71 @@ fn difference(a: u64, b: u64) -> i64
     a as i64 - b as i64
 }
 
-// How many dibits have both their reliabilities.
-fn both_reach(dibits: usize, reliable: usize) -> usize
-    ensures { λ r. ⌜ r ≡ min dibits (reliable / 2) ⌝ }
+// What a feed hands back: its answer, and the rings as it left them.
+fn feed_answer(bits: [u8; 1155], reliabilities: [u8; 1155], d: Into) -> Fed
+    ensures { λ r. ⌜ r ≡ fedWith bits reliabilities d ⌝ }
 {
-    if reliable / 2 < dibits {
-        return reliable / 2;
-    }
-    dibits
-}
-
-// Dibit k of a byte, the highest first.
-fn dibit_of(byte: u8, k: usize) -> u8
-    requires { ⌜ k < 4 ⌝ }
-    ensures { λ r. ⌜ r ≡ getD (unpacked (byte ∷ [])) k 0 ⌝ }
-{
-    if k == 0 {
-        return byte / 64 % 4;
-    }
-    if k == 1 {
-        return byte / 16 % 4;
-    }
-    if k == 2 {
-        return byte / 4 % 4;
-    }
-    byte % 4
-}
-
-// One push.
-fn one_push(
-    s: Synchroniser,
-    dibit: u8,
-    first: u8,
-    second: u8,
-    soft: bool,
-    room: &mut [u8],
-) -> Pushed
-    requires { ⌜ Valid s ⌝ }
-    ensures { λ r. ⌜ PushedBy (now (room .entry)) (now (room .exit)) s (record { dibit = dibit; ofFirst = first; ofSecond = second; soft = soft }) r ⌝ }
-{
-    let mut bits = s.bits;
-    let mut reliabilities = s.reliabilities;
-    let d = push_into(
-        &mut bits,
-        &mut reliabilities,
-        s.numbers,
-        dibit,
-        first,
-        second,
-        soft,
-        room,
-    );
-    let answer = d.answer;
-    let numbers = d.numbers;
-    let heads = d.heads;
+    let drained = d.drained;
+    let numbers = drained.numbers;
+    let heads = drained.heads;
     let next = Synchroniser {
         bits,
         reliabilities,
         numbers,
     };
+    let answer = d.answer;
+    let pushed = Pushed {
+        answer,
+        count: drained.count,
+        heads,
+        next,
+    };
+    Fed {
+        used: d.took,
+        pushed,
+    }
+}
+
+// What a push hands back: its answer, its frames and the next synchroniser.
+fn handed(answer: Push, d: Drained, next: Synchroniser) -> Pushed
+    ensures { λ r. ⌜ r ≡ handedOf answer d next ⌝ }
+{
+    let heads = d.heads;
     Pushed {
         answer,
         count: d.count,
         heads,
         next,
     }
+}
+
+// One push. It writes into the state that it hands back: a state that is taken apart and put together again is copied once more.
+fn one_push(s: Synchroniser, x: Given, room: &mut [u8]) -> Pushed
+    requires { ⌜ Valid s ⌝ }
+    ensures { λ r. ⌜ PushedBy (now (room .entry)) (now (room .exit)) s (inputOf x) r ⌝ }
+{
+    let k = s.numbers;
+    let answer = answer_to(k.taken, x.dibit, room.len());
+    let took = made(answer);
+    let mut next = s;
+    if took == 0 {
+        let none = nothing(k);
+        return handed(answer, none, next);
+    }
+    let end = k.first + (k.restorable + k.pending);
+    put(&mut next.bits, end, x.dibit / 2, x.dibit % 2);
+    put(&mut next.reliabilities, end, x.first, x.second);
+    let one = appended(k, x.soft);
+    let busy = enough(one);
+    if busy {
+        let d = sends(&next.bits, &next.reliabilities, one, room);
+        let after = d.numbers;
+        next.numbers = after;
+        return handed(answer, d, next);
+    }
+    next.numbers = one;
+    let none = nothing(one);
+    handed(answer, none, next)
 }
 
 // Demand 3 over any list of pushes.

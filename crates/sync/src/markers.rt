@@ -22,7 +22,7 @@ fn wide(b: u8) -> u16
 }
 
 // The number that `count` bits from place `from` on spell, highest first.
-pub fn spelled(bits: &[u8; 1155], from: usize, count: usize) -> u16
+pub(crate) fn spelled(bits: &[u8; 1155], from: usize, count: usize) -> u16
     requires { ⌜ Bits (now bits) ⌝ ∗ ⌜ count ≤ 16 ⌝ }
     ensures { λ r. ⌜ r ≡ spell 0 (ring (now (bits .entry)) from count) ⌝ }
 {
@@ -41,7 +41,7 @@ pub fn spelled(bits: &[u8; 1155], from: usize, count: usize) -> u16
 }
 
 // The marker of a segment, at place `from`.
-pub fn marker(bits: &[u8; 1155], from: usize, segment: usize) -> Reading
+pub(crate) fn marker(bits: &[u8; 1155], from: usize, segment: usize) -> Reading
     requires { ⌜ Bits (now bits) ⌝ ∗ ⌜ segment < 3 ⌝ }
     ensures ok { λ r. ⌜ Seen (now (bits .entry)) from 16 (r .matched) (λ xs p. matches xs p segment) ⌝ }
     ensures errors { λ r. ⌜ Seen (now (bits .entry)) from 16 (r .errors) (λ xs p. errors xs p segment) ⌝ }
@@ -57,7 +57,7 @@ pub fn marker(bits: &[u8; 1155], from: usize, segment: usize) -> Reading
 }
 
 // Whether it matches. Its first four matching bits are read before the others: noise seldom shows them.
-pub fn matches_at(bits: &[u8; 1155], from: usize, segment: usize) -> bool
+pub(crate) fn matches_at(bits: &[u8; 1155], from: usize, segment: usize) -> bool
     requires { ⌜ Bits (now bits) ⌝ ∗ ⌜ segment < 3 ⌝ ∗ ⌜ from < 20000 ⌝ }
     ensures { λ r. ⌜ Seen (now (bits .entry)) from 16 r (λ xs p. matches xs p segment) ⌝ }
 {
@@ -72,7 +72,7 @@ pub fn matches_at(bits: &[u8; 1155], from: usize, segment: usize) -> bool
 }
 
 // At least two of three.
-pub fn two_of(a: bool, b: bool, c: bool) -> bool
+pub(crate) fn two_of(a: bool, b: bool, c: bool) -> bool
     ensures { λ r. ⌜ r ≡ twoOf a b c ⌝ }
 {
     if a {
@@ -88,7 +88,7 @@ pub fn two_of(a: bool, b: bool, c: bool) -> bool
 }
 
 // Whether the frame at place `from` shows at least two of its three markers.
-pub fn two_of_three(bits: &[u8; 1155], from: usize) -> bool
+pub(crate) fn two_of_three(bits: &[u8; 1155], from: usize) -> bool
     requires { ⌜ Bits (now bits) ⌝ ∗ ⌜ from < 10000 ⌝ }
     ensures { λ r. ⌜ Seen (now (bits .entry)) from 272 r (λ xs p. shows xs p) ⌝ }
 {
@@ -107,7 +107,7 @@ pub fn two_of_three(bits: &[u8; 1155], from: usize) -> bool
 }
 
 // Whether three frames 384 bits apart do.
-pub fn three_frames(bits: &[u8; 1155], from: usize) -> bool
+pub(crate) fn three_frames(bits: &[u8; 1155], from: usize) -> bool
     requires { ⌜ Bits (now bits) ⌝ ∗ ⌜ from < 4000 ⌝ }
     ensures { λ r. ⌜ Seen (now (bits .entry)) from 1152 r (λ xs p. locksAt xs p) ⌝ }
 {
@@ -123,7 +123,7 @@ pub fn three_frames(bits: &[u8; 1155], from: usize) -> bool
 }
 
 // Whether the frame at place `from` shows all three.
-pub fn in_place(bits: &[u8; 1155], from: usize) -> bool
+pub(crate) fn in_place(bits: &[u8; 1155], from: usize) -> bool
     requires { ⌜ Bits (now bits) ⌝ ∗ ⌜ from < 4000 ⌝ }
     ensures { λ r. ⌜ Seen (now (bits .entry)) from 272 r (λ xs p. inPlace xs p) ⌝ }
 {
@@ -139,7 +139,7 @@ pub fn in_place(bits: &[u8; 1155], from: usize) -> bool
 }
 
 // Where a segment starts, behind the place `base`: at `at`, a symbol later, or a symbol earlier.
-pub fn segment_at(bits: &[u8; 1155], base: usize, at: usize, segment: usize) -> usize
+pub(crate) fn segment_at(bits: &[u8; 1155], base: usize, at: usize, segment: usize) -> usize
     requires { ⌜ Bits (now bits) ⌝ ∗ ⌜ segment < 3 ⌝ ∗ ⌜ base < 4000 ⌝ ∗ ⌜ 2 ≤ at ⌝ ∗ ⌜ at < 4000 ⌝ }
     ensures { λ r. ⌜ ((n : ℕ) → at + 18 ≤ n → r ≡ moved (moveTo (ring (now (bits .entry)) base n) at segment) at) ⌝ }
     ensures near { λ r. ⌜ (r ≤ at + 2) × (at ≤ r + 2) ⌝ }

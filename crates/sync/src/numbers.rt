@@ -24,7 +24,7 @@ pub struct Numbers {
 }
 
 // k pending bits passed.
-pub fn dropped(c: Numbers, k: usize) -> Numbers
+pub(crate) fn dropped(c: Numbers, k: usize) -> Numbers
     requires { ⌜ Sound c ⌝ ∗ ⌜ k ≤ c .pending ⌝ }
     ensures { λ r. ⌜ Dropped c k r ⌝ }
 {
@@ -41,7 +41,7 @@ pub fn dropped(c: Numbers, k: usize) -> Numbers
 }
 
 // The restorable bits pending again.
-pub fn restored(c: Numbers) -> Numbers
+pub(crate) fn restored(c: Numbers) -> Numbers
     requires { ⌜ Sound c ⌝ ∗ ⌜ Low c ⌝ }
     ensures { λ r. ⌜ Restored c r ⌝ }
 {
@@ -61,7 +61,7 @@ fn or(a: bool, b: bool) -> bool
 }
 
 // Two bits brought by a push, soft or not.
-pub fn appended(c: Numbers, soft: bool) -> Numbers
+pub(crate) fn appended(c: Numbers, soft: bool) -> Numbers
     requires { ⌜ Steady c ⌝ ∗ ⌜ c .pending ≤ 1151 ⌝ ∗ ⌜ c .taken < 2 ^ 40 ⌝ }
     ensures { λ r. ⌜ r ≡ appendedTo c soft ⌝ }
 {
@@ -84,7 +84,7 @@ fn beyond(a: usize, b: usize) -> u64
 }
 
 // The shifts of a frame's second and third segment counted, which start p and q behind its front.
-pub fn shifted(c: Numbers, p: usize, q: usize) -> Numbers
+pub(crate) fn shifted(c: Numbers, p: usize, q: usize) -> Numbers
     requires { ⌜ c .later < 2 ^ 50 ⌝ ∗ ⌜ c .earlier < 2 ^ 50 ⌝ ∗ ⌜ p < 1000 ⌝ ∗ ⌜ q < 1000 ⌝ }
     ensures { λ r. ⌜ r ≡ withMoves c (c .later + cond (ltb 128 p) 1 0 + cond (ltb (p + 128) q) 1 0) (c .earlier + cond (ltb p 128) 1 0 + cond (ltb q (p + 128)) 1 0) ⌝ }
 {
@@ -99,7 +99,7 @@ pub fn shifted(c: Numbers, p: usize, q: usize) -> Numbers
 }
 
 // The numbers that a frame leaves whose third segment starts q behind its front.
-pub fn sent(c: Numbers, q: usize, matched: bool) -> Numbers
+pub(crate) fn sent(c: Numbers, q: usize, matched: bool) -> Numbers
     requires { ⌜ Sound c ⌝ ∗ ⌜ 252 ≤ q ⌝ ∗ ⌜ q + 128 ≤ c .pending ⌝ ∗ ⌜ c .failures ≤ 2 ⌝ ∗ ⌜ c .locked ≡ true ⌝ }
     ensures { λ r. ⌜ Left c q matched r ⌝ }
 {

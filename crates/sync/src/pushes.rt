@@ -1,15 +1,14 @@
-// A push into lent rings: its tests, its two bits, the search where there is no lock, and its frames.
+// The parts of a push: its tests, its two bits, the search where there is no lock, and its frames.
 ghost use mathlib.Core.Path.{_≡_};
-ghost use mathlib.Core.Bool.{true};
-ghost use Prim.Native.Nat.{ℕ, _+_, _-_, _^_, _<_, _≤_};
-ghost use lib.ListN.{length};
+ghost use mathlib.Core.Bool.{true, false};
+ghost use Prim.Native.Nat.{ℕ, _+_, _-_, _%_, _^_, _<_, _≤_};
+ghost use lib.ListN.{length, set};
 ghost use Rattle.bits.specs.Bit.{Bits};
 ghost use Rattle.sync.specs.Ring.{ring};
-ghost use Rattle.sync.specs.View.{Sound, Low, Steady, Few, Rings, viewOf};
-ghost use Rattle.sync.specs.Steps.{Searched, DrainedBy};
-ghost use Rattle.sync.specs.Answers.{PushedInto, refusedWith};
+ghost use Rattle.sync.specs.View.{Sound, Low, Steady, Rings};
+ghost use Rattle.sync.specs.Steps.{Brought, Searched, Waiting, SentAfter, inputOf, hardGiven, softGiven};
+ghost use Rattle.sync.specs.Answers.{answerBy, takes};
 ghost use Rattle.sync_rules.specs.Matching.{firstOf, locksAt};
-ghost use Rattle.sync_rules.specs.Pushes.{step};
 use super::Push;
 use super::frames::Drained;
 use super::frames::drain;
@@ -18,16 +17,40 @@ use super::numbers::Numbers;
 use super::numbers::appended;
 use super::numbers::dropped;
 use bits::Refusal;
-use sync_rules::Head;
 
-// The answer to a push, how many pushes were made (1 or 0), whether a feed stops after it, the numbers after it, and the heads of its frames.
-pub struct Into {
-    pub answer: Push,
-    pub took: usize,
-    pub stops: bool,
-    pub numbers: Numbers,
-    pub count: usize,
-    pub heads: [Head; 3],
+// What a push brings: a dibit, the reliabilities of its two bits, and whether it is a soft push. `more` is false where there is none to make.
+pub struct Given {
+    pub more: bool,
+    pub dibit: u8,
+    pub first: u8,
+    pub second: u8,
+    pub soft: bool,
+}
+
+// A hard push.
+pub(crate) fn hard_given(dibit: u8) -> Given
+    ensures { λ r. ⌜ r ≡ hardGiven dibit ⌝ }
+{
+    Given {
+        more: true,
+        dibit,
+        first: 255,
+        second: 255,
+        soft: false,
+    }
+}
+
+// A soft push.
+pub(crate) fn soft_given(dibit: u8, first: u8, second: u8) -> Given
+    ensures { λ r. ⌜ r ≡ softGiven dibit first second ⌝ }
+{
+    Given {
+        more: true,
+        dibit,
+        first,
+        second,
+        soft: true,
+    }
 }
 
 // The first of `tries` places from `base` on where three frames show themselves, or `tries`.
@@ -78,84 +101,90 @@ fn search(bits: &[u8; 1155], c: Numbers) -> Numbers
     d
 }
 
-// A push that no test refuses.
-fn taken_into(
+// A place of the ring, round its end.
+fn in_ring(place: usize) -> usize
+    requires { ⌜ place < 2310 ⌝ }
+    ensures { λ r. ⌜ r ≡ place % 1155 ⌝ }
+{
+    if place < 1155 {
+        return place;
+    }
+    place - 1155
+}
+
+// Two values put behind the held ones, which end before place `end`.
+pub(crate) fn put(ring: &mut [u8; 1155], end: usize, first: u8, second: u8)
+    requires { ⌜ length (now ring) ≡ 1155 ⌝ ∗ ⌜ end < 2309 ⌝ }
+    ensures { λ r. ⌜ now (ring .exit) ≡ set (set (now (ring .entry)) (end % 1155) first) ((end + 1) % 1155) second ⌝ }
+{
+    let p = in_ring(end);
+    let q = in_ring(end + 1);
+    ring[p] = first;
+    ring[q] = second;
+}
+
+// The bits of a push and their reliabilities brought into the rings.
+pub(crate) fn brought(
     bits: &mut [u8; 1155],
     reliabilities: &mut [u8; 1155],
     k: Numbers,
-    dibit: u8,
-    first: u8,
-    second: u8,
-    soft: bool,
-    room: &mut [u8],
-) -> Drained
-    requires { ⌜ Steady k ⌝ ∗ ⌜ (k .pending ≤ 1151) × (k .taken < 2 ^ 40) ⌝ ∗ ⌜ Rings (now bits) (now reliabilities) ⌝ ∗ ⌜ dibit < 4 ⌝ ∗ ⌜ 1296 ≤ length (now room) ⌝ }
-    ensures { λ r. ⌜ DrainedBy (now (bits .exit)) (now (reliabilities .exit)) (now (room .entry)) (now (room .exit)) 0 3 (step (record { dibit = dibit; ofFirst = first; ofSecond = second; soft = soft }) (viewOf (now (bits .entry)) (now (reliabilities .entry)) k)) (r .numbers) (r .count) (r .heads) ⌝ }
-    ensures rings { λ r. ⌜ Rings (now (bits .exit)) (now (reliabilities .exit)) ⌝ }
+    x: Given,
+) -> Numbers
+    requires { ⌜ Steady k ⌝ ∗ ⌜ (k .pending ≤ 1151) × (k .taken < 2 ^ 40) ⌝ ∗ ⌜ Rings (now bits) (now reliabilities) ⌝ ∗ ⌜ x .dibit < 4 ⌝ }
+    ensures { λ r. ⌜ Brought (now (bits .entry)) (now (reliabilities .entry)) (now (bits .exit)) (now (reliabilities .exit)) k (inputOf x) r ⌝ }
 {
     let end = k.first + (k.restorable + k.pending);
-    let p = end % 1155;
-    let q = (end + 1) % 1155;
-    bits[p] = dibit / 2;
-    bits[q] = dibit % 2;
-    reliabilities[p] = first;
-    reliabilities[q] = second;
-    let one = appended(k, soft);
-    let two = search(&*bits, one);
-    drain(&*bits, &*reliabilities, two, room)
+    put(&mut *bits, end, x.dibit / 2, x.dibit % 2);
+    put(&mut *reliabilities, end, x.first, x.second);
+    appended(k, x.soft)
 }
 
-// A refusal.
-fn refused(numbers: Numbers, refusal: Refusal) -> Into
-    ensures { λ r. ⌜ r ≡ refusedWith numbers refusal ⌝ }
-{
-    let none = Head {
-        offset: 0,
-        matched: false,
-        errors: 0,
-    };
-    Into {
-        answer: Push::Refused(refusal),
-        took: 0,
-        stops: true,
-        numbers,
-        count: 0,
-        heads: [none; 3],
-    }
-}
-
-// A push: tests 1, 2 and 3 in this order, then the push.
-pub fn push_into(
-    bits: &mut [u8; 1155],
-    reliabilities: &mut [u8; 1155],
-    k: Numbers,
-    dibit: u8,
-    first: u8,
-    second: u8,
-    soft: bool,
-    room: &mut [u8],
-) -> Into
-    requires { ⌜ Steady k ⌝ ∗ ⌜ Few k ⌝ ∗ ⌜ Rings (now bits) (now reliabilities) ⌝ }
-    ensures { λ r. ⌜ PushedInto (now (bits .entry)) (now (reliabilities .entry)) (now (bits .exit)) (now (reliabilities .exit)) (now (room .entry)) (now (room .exit)) k (record { dibit = dibit; ofFirst = first; ofSecond = second; soft = soft }) r ⌝ }
+// The answer to a push: tests 1, 2 and 3 in this order.
+pub(crate) fn answer_to(taken: u64, dibit: u8, room: usize) -> Push
+    ensures { λ r. ⌜ r ≡ answerBy room dibit taken ⌝ }
 {
     if 3 < dibit {
-        return refused(k, Refusal::Dibit);
+        return Push::Refused(Refusal::Dibit);
     }
-    if room.len() < 1296 {
-        return refused(k, Refusal::FrameRoom);
+    if room < 1296 {
+        return Push::Refused(Refusal::FrameRoom);
     }
-    if 1099511627776 <= k.taken {
-        return refused(k, Refusal::StreamEnd);
+    if 1099511627776 <= taken {
+        return Push::Refused(Refusal::StreamEnd);
     }
-    let d = taken_into(bits, reliabilities, k, dibit, first, second, soft, room);
-    let numbers = d.numbers;
-    let heads = d.heads;
-    Into {
-        answer: Push::Taken,
-        took: 1,
-        stops: d.count != 0,
-        numbers,
-        count: d.count,
-        heads,
+    Push::Taken
+}
+
+// How many pushes were made: 1, or 0 of a refused one.
+pub(crate) fn made(answer: Push) -> usize
+    ensures { λ r. ⌜ r ≡ takes answer ⌝ }
+{
+    match answer {
+        Push::Taken => 1,
+        Push::Refused(_) => 0,
     }
+}
+
+// Whether bits enough are pending for a frame, or without a lock for a search. After most pushes they are not.
+pub(crate) fn enough(k: Numbers) -> bool
+    ensures { λ r. ⌜ (r ≡ false → Waiting k) ⌝ }
+{
+    if k.locked {
+        return 384 <= k.pending;
+    }
+    1152 <= k.pending
+}
+
+// What follows once the bits of a push are brought: a search where there is no lock, then the frames that are ready.
+pub(crate) fn sends<'a>(
+    bits: &'a [u8; 1155],
+    reliabilities: &'a [u8; 1155],
+    k: Numbers,
+    room: &mut [u8],
+) -> Drained
+    requires { ⌜ Bits (now bits) ⌝ ∗ ⌜ Steady k ⌝ ∗ ⌜ 1296 ≤ length (now room) ⌝ }
+    ensures { λ r. ⌜ SentAfter (now (bits .entry)) (now (reliabilities .entry)) (now (room .entry)) (now (room .exit)) k r ⌝ }
+{
+    let found = search(bits, k);
+    drain(bits, reliabilities, found, room)
 }

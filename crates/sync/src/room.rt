@@ -36,7 +36,14 @@ fn write_reliabilities(room: &mut [u8], to: usize, reliabilities: &[u8; 1155], f
 }
 
 // A frame's 48 envelope bytes, its segments at `base`, p behind it and q behind it.
-pub fn lay_bits(room: &mut [u8], to: usize, bits: &[u8; 1155], base: usize, p: usize, q: usize)
+pub(crate) fn lay_bits(
+    room: &mut [u8],
+    to: usize,
+    bits: &[u8; 1155],
+    base: usize,
+    p: usize,
+    q: usize,
+)
     requires { ⌜ Bits (now bits) ⌝ ∗ ⌜ to + 48 ≤ length (now room) ⌝ ∗ ⌜ base < 4000 ⌝ ∗ ⌜ p < 1000 ⌝ ∗ ⌜ q < 1000 ⌝ }
     ensures { λ r. ⌜ now (room .exit) ≡ sets (now (room .entry)) to (bytesOf 48 (runs (now (bits .entry)) base p q)) ⌝ }
 {
@@ -63,7 +70,7 @@ fn lay_reliabilities(
 }
 
 // The same, once a soft push has been made.
-pub fn lay_soft(
+pub(crate) fn lay_soft(
     room: &mut [u8],
     to: usize,
     reliabilities: &[u8; 1155],

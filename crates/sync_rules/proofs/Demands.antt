@@ -268,7 +268,7 @@ module _ (before : List Input) (b : Begun before) where
         never = λ none. let l = place-low in
             let n : length (stream (before ++ after)) ≡ length (stream before) + length (stream after) = ap length (stream-append before after) ∙ length-append (stream before) (stream after) in
             quiet after (length (stream (before ++ after))) (omega arith) (λ i a l arrived. none i a arrived) (omega arith);
-        exact = λ q k f three fits row. comes after q k (f .after) (λ i a l arrived. f .none i a l) (f .here) (f .arrived) row fits ∙ ap (λ (o : ℕ). inARow (stream (before ++ after)) q o k) (sym (b .offset q));
+        exact = λ q k f fits row. comes after q k (f .after) (λ i a l arrived. f .none i a l) (f .here) (f .arrived) row fits ∙ ap (λ (o : ℕ). inARow (stream (before ++ after)) q o k) (sym (b .offset q));
       }
     where
       earlier : (later : List Input) (i : ℕ) → i + 1152 ≤ length (stream (before ++ after)) → locksAt (stream (before ++ after)) i ≡ locksAt (stream ((before ++ after) ++ later)) i

@@ -129,7 +129,7 @@ sends-at : (H : List ℕ) (m : State) (a : ℕ) (n : State) → Like m n → (l 
 unfolding sendAt leave pass frameAt lies-pass
 sends-at H m a n k l h p q e g f =
     record {
-      lies = lies-pass H (n .held) (n .restorable) (q + 128) l f;
+      lies = lies-pass H (n .held) (n .restorable) _ l (omega (arith, f));
       far = omega arith;
       balance = λ w. omega (arith, e w);
       offset = k .clock;

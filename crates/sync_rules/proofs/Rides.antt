@@ -211,7 +211,7 @@ module _ (H X : List ℕ) (m : State) (a c : ℕ) (r : Riding H m a c) where
     unfolding sendAt leave pass lies-pass
     rides-on =
         let e = r .here in
-        record { lies = lies-pass H (m .held) (m .restorable) (256 + 128) (r .lies) (omega arith); here = omega arith; locked = ap (λ (b : Bool). cond b true (ltb (m .failures + 1) 3)) matched ∙ cond-true; clock = ap (λ (z : ℕ). z + 384) (r .clock) }
+        record { lies = lies-pass H (m .held) (m .restorable) _ (r .lies) (omega arith); here = omega arith; locked = ap (λ (b : Bool). cond b true (ltb (m .failures + 1) 3)) matched ∙ cond-true; clock = ap (λ (z : ℕ). z + 384) (r .clock) }
       where
         cond-true : cond true true (ltb (m .failures + 1) 3) ≡ true
         cond-true = sym (cond-yes true true true (ltb (m .failures + 1) 3) refl refl)

@@ -84,7 +84,7 @@ pub record Demand3 (before after : List Input) : Type 0 where
   pub never : ((i : ℕ) → placeOf before ≤ i → i + 1152 ≤ length (stream (before ++ after)) → locksAt (stream (before ++ after)) i ≡ false)
       → sentBy before after ≡ []
   -- k frames from Q on that have arrived, all markers in place, are the next k frames out, and are out
-  pub exact : (q k : ℕ) → FirstLock (stream (before ++ after)) (placeOf before) q → 3 ≤ k
+  pub exact : (q k : ℕ) → FirstLock (stream (before ++ after)) (placeOf before) q
       → q + 384 * k ≤ length (stream (before ++ after))
       → ((j : ℕ) → j < k → inPlace (stream (before ++ after)) (q + 384 * j) ≡ true)
       → take k (figures (sentBy before after)) ≡ inARow (stream (before ++ after)) q (firstOffset (sentBy [] before) (placeOf before) q) k

@@ -4,14 +4,6 @@ use Rattle.sync.proofs.Signed.{minus-fits, minus-read}
 use borrow.Author.Needs.{needs}
 use Rattle.sync.proofs.difference.Statement.{statement}
 use Rattle.sync.proofs.difference.Tie as tie
-use Rattle.sync.proofs.difference.Reads as reads
-use Rattle.sync.proofs.difference.Lts as lts
-
-cast-result : tie.Need-cast-result
-cast-result c = search needs
-
-cast-result-2 : tie.Need-cast-result-2
-cast-result-2 c = search needs
 
 sub-result : tie.Need-sub-result
 sub-result c = minus-fits (c .args .a) (c .args .b) (c .pre .0) (c .pre .1)
@@ -20,4 +12,4 @@ returns : tie.Need-returns
 returns c = minus-read (c .args .a) (c .args .b) (c .pre .0) (c .pre .1)
 
 pub difference-spec : {M : Type 1} → statement M
-difference-spec = tie.close (tie.spec cast-result cast-result-2 sub-result returns)
+difference-spec = tie.close (tie.spec (λ c. search needs) (λ c. search needs) sub-result returns)

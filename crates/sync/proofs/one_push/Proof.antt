@@ -1,54 +1,94 @@
 -- `sync::one_push` meets its contract.
 -- Assumes nothing.
-use mathlib.Core.Path.{_≡_}
-use mathlib.Core.List.{List}
-use Prim.Native.Nat.{ℕ}
+use mathlib.Core.Path.{_≡_, refl, sym, ap, _∙_}
+use native.Mathlib.Omega.{arith}
 use lib.ListN.{length}
+use Rattle.sync.specs.declared.frames.Drained.{Drained}
+use Rattle.sync.specs.Steps.{inputOf}
+use Rattle.sync.specs.Answers.{takes}
+use Rattle.sync.proofs.Bringing.{brings}
+use Rattle.sync.proofs.Quiets.{waits-as}
+use Rattle.sync.proofs.Answering.{taking, refuses, accepts, handed-by}
 use borrow.Author.Needs.{needs}
-use Rattle.sync.specs.declared.Synchroniser.{Synchroniser}
-use Rattle.sync.specs.declared.numbers.Numbers.{Numbers}
 use Rattle.sync.proofs.one_push.Statement.{statement}
 use Rattle.sync.proofs.one_push.Tie as tie
-use Rattle.sync.proofs.one_push.Reads as reads
-use Rattle.sync.proofs.one_push.Lts as lts
-use Rattle.sync.proofs.pushes.push_into.Reads as push-into-reads
-
-make : List ℕ → List ℕ → Numbers → Synchroniser
-make b r n = record { bits = b; reliabilities = r; numbers = n }
-
-make-same : (b b′ r r′ : List ℕ) (n n′ : Numbers) → b ≡ b′ → r ≡ r′ → n ≡ n′ → make b r n ≡ make b′ r′ n′
-make-same b b′ r r′ n n′ p q t = cc
-
-same-parts : (s : Synchroniser) (b r : List ℕ) (n : Numbers) → b ≡ s .bits → r ≡ s .reliabilities → n ≡ s .numbers → record { bits = b; reliabilities = r; numbers = n } ≡ s
-unfolding make
-same-parts s b r n p q t = make-same b (s .bits) r (s .reliabilities) n (s .numbers) p q t
-
-push-into-requires : tie.Need-push-into-requires
-push-into-requires c κs =
-    let s = c .before .before .before .before .before .before in
-    let v = s .pre in
-    let long : length (s .args .s .bits) ≡ 1155 = search needs in
-    let as-long : length (s .args .s .reliabilities) ≡ 1155 = search needs in
-    (v .steady, (v .few, record { long = long; as-long = as-long; binary = v .binary }))
-
-same-length : tie.Need-same-length
-same-length c = search needs
 
 returns : tie.Need-returns
 returns c =
-    let s = c .before .before .before .before .before .before .before .before .before .before .before in
-    let a = s .args in
-    let p = c .before .before .before .before .push-into .ensures in
-    let d = p .drained in
-    record {
-      answer = p .answer;
-      valid = record { steady = d .steady; binary = p .rings .binary; few = d .few };
-      next = d .next;
-      many = d .many;
-      figures = d .figures;
-      stored = d .stored;
-      kept = λ z. let e = p .kept z in same-parts (a .s) _ _ _ (e .0) (e .1) (e .2);
-    }
+    let s = c .before .before .before .before .before .before .before in
+    let v = s .pre in
+    let long : length (s .args .s .bits) ≡ 1155 = search needs in
+    let as-long : length (s .args .s .reliabilities) ≡ 1155 = search needs in
+    let z = sym (c .before .before .before .made .ensures) ∙ c .before .before .if1 .taken in
+    handed-by (s .args .s) _ _ _ _ _ _ _ _ (refuses _ _ _ _ _ _ (c .before .before .before .before .answer-to .ensures) z (v .steady) (v .few) (record { long = long; as-long = as-long; binary = v .binary }) _ (c .before .nothing .ensures))
+    (sym (ap (λ (d : Drained). d .numbers) (c .before .nothing .ensures))) _ (c .handed .ensures)
+
+put-requires-2 : tie.Need-put-requires-2
+put-requires-2 c κs =
+    let s = c .before .before .before .before .before .before .before .before .before .before .before .before in
+    let v = s .pre in
+    let as-long : length (s .args .s .reliabilities) ≡ 1155 = search needs in
+    (as-long, omega (arith, v .steady .sound .first-in, v .steady .sound .restorable-few, v .few .1))
+
+appended-requires : tie.Need-appended-requires
+appended-requires c κs =
+    let v = c .before .before .before .before .before .before .before .before .before .before .before .before .before .pre in
+    let t = taking _ _ _ _ (c .before .before .before .before .before .before .before .before .before .before .answer-to .ensures) (λ z. c .before .before .before .before .before .before .before .before .if1 .left (c .before .before .before .before .before .before .before .before .before .made .ensures ∙ z)) in
+    (v .steady, (v .few .1, t .early))
+
+sends-requires : tie.Need-sends-requires
+sends-requires c κs =
+    let s = c .before .before .before .before .before .before .before .before .before .before .before .before .before .before .before .before .before .before .before .before in
+    let v = s .pre in
+    let long : length (s .args .s .bits) ≡ 1155 = search needs in
+    let as-long : length (s .args .s .reliabilities) ≡ 1155 = search needs in
+    let t = taking _ _ _ _ (c .before .before .before .before .before .before .before .before .before .before .before .before .before .before .before .before .before .answer-to .ensures) (λ z. c .before .before .before .before .before .before .before .before .before .before .before .before .before .before .before .if1 .left (c .before .before .before .before .before .before .before .before .before .before .before .before .before .before .before .before .made .ensures ∙ z)) in
+    let b = brings (s .args .s .bits) (s .args .s .reliabilities) (s .args .s .numbers) long as-long (v .steady) (v .few .1) (t .early) (inputOf (s .args .x)) _ _ (c .before .before .before .before .before .before .before .before .before .put .ensures) (c .before .before .before .before .before .before .before .put2 .ensures) _ (c .before .before .before .before .before .before .appended .ensures) (v .binary) (omega (arith, t .good)) in
+    (b .rings .binary, (b .steady, t .fits))
+
+returns-2 : tie.Need-returns-2
+returns-2 c =
+    let s = c .before .before .before .before .before .before .before .before .before .before .before .before .before .before .before .before .before .before .before .before .before .before .before .before .before in
+    let v = s .pre in
+    let long : length (s .args .s .bits) ≡ 1155 = search needs in
+    let as-long : length (s .args .s .reliabilities) ≡ 1155 = search needs in
+    let h : takes (c .before .before .before .before .before .before .before .before .before .before .before .before .before .before .before .before .before .before .before .before .before .before .answer-to .result) ≡ 0 → ⊥ = λ z. c .before .before .before .before .before .before .before .before .before .before .before .before .before .before .before .before .before .before .before .before .if1 .left (c .before .before .before .before .before .before .before .before .before .before .before .before .before .before .before .before .before .before .before .before .before .made .ensures ∙ z) in
+    let t = taking _ _ _ _ (c .before .before .before .before .before .before .before .before .before .before .before .before .before .before .before .before .before .before .before .before .before .before .answer-to .ensures) h in
+    let b = brings (s .args .s .bits) (s .args .s .reliabilities) (s .args .s .numbers) long as-long (v .steady) (v .few .1) (t .early) (inputOf (s .args .x)) _ _ (c .before .before .before .before .before .before .before .before .before .before .before .before .before .before .put .ensures) (c .before .before .before .before .before .before .before .before .before .before .before .before .put2 .ensures) _ (c .before .before .before .before .before .before .before .before .before .before .before .appended .ensures) (v .binary) (omega (arith, t .good)) in
+    handed-by (s .args .s) _ _ _ _ _ _ _ _ (accepts _ _ _ _ _ _ (c .before .before .before .before .before .before .before .before .before .before .before .before .before .before .before .before .before .before .before .before .before .before .answer-to .ensures) h _ _ _ _ b _ (c .before .before .before .before .sends .ensures)) refl _ (c .handed2 .ensures)
+
+returns-3 : tie.Need-returns-3
+returns-3 c =
+    let s = c .before .before .before .before .before .before .before .before .before .before .before .before .before .before .before .before .before .before in
+    let v = s .pre in
+    let long : length (s .args .s .bits) ≡ 1155 = search needs in
+    let as-long : length (s .args .s .reliabilities) ≡ 1155 = search needs in
+    let h : takes (c .before .before .before .before .before .before .before .before .before .before .before .before .before .before .before .answer-to .result) ≡ 0 → ⊥ = λ z. c .before .before .before .before .before .before .before .before .before .before .before .before .before .if1 .left (c .before .before .before .before .before .before .before .before .before .before .before .before .before .before .made .ensures ∙ z) in
+    let t = taking _ _ _ _ (c .before .before .before .before .before .before .before .before .before .before .before .before .before .before .before .answer-to .ensures) h in
+    let b = brings (s .args .s .bits) (s .args .s .reliabilities) (s .args .s .numbers) long as-long (v .steady) (v .few .1) (t .early) (inputOf (s .args .x)) _ _ (c .before .before .before .before .before .before .before .put .ensures) (c .before .before .before .before .before .put2 .ensures) _ (c .before .before .before .before .appended .ensures) (v .binary) (omega (arith, t .good)) in
+    let n = c .before .nothing2 .ensures in
+    handed-by (s .args .s) _ _ _ _ _ _ _ _ (accepts _ _ _ _ _ _ (c .before .before .before .before .before .before .before .before .before .before .before .before .before .before .before .answer-to .ensures) h _ _ _ _ b _ (waits-as _ _ _ _ (b .steady) (c .before .before .before .enough .ensures (c .before .before .if2 .left)) _ n))
+    (sym (ap (λ (d : Drained). d .numbers) n)) _ (c .handed3 .ensures)
 
 pub one-push-spec : {M : Type 1} → statement M
-one-push-spec = tie.close (tie.spec push-into-requires same-length returns)
+one-push-spec =
+    tie.close
+    (tie.spec
+    (λ c κs. search needs)
+    (λ c κs. search needs)
+    (λ c κs. search needs)
+    (λ c κs. search needs)
+    returns
+    (λ c. search needs)
+    (λ c. search needs)
+    (λ c κs. search needs)
+    put-requires-2
+    appended-requires
+    (λ c κs. search needs)
+    sends-requires
+    (λ c κs. search needs)
+    (λ c. search needs)
+    returns-2
+    (λ c κs. search needs)
+    (λ c κs. search needs)
+    returns-3)

@@ -8,8 +8,6 @@ use Rattle.sync.specs.Ring.{ring}
 use Rattle.bits.proofs.BelowSets.{below-replicate}
 use Rattle.sync.proofs.Synchroniser.new.Statement.{statement}
 use Rattle.sync.proofs.Synchroniser.new.Tie as tie
-use Rattle.sync.proofs.Synchroniser.new.Reads as reads
-use Rattle.sync.proofs.Synchroniser.new.Lts as lts
 
 returns : tie.Need-returns
 unfolding ring

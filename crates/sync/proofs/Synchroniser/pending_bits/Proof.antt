@@ -4,8 +4,6 @@ use mathlib.Core.Path.{sym}
 use Rattle.sync.proofs.Finds.{pending-is}
 use Rattle.sync.proofs.Synchroniser.pending_bits.Statement.{statement}
 use Rattle.sync.proofs.Synchroniser.pending_bits.Tie as tie
-use Rattle.sync.proofs.Synchroniser.pending_bits.Reads as reads
-use Rattle.sync.proofs.Synchroniser.pending_bits.Lts as lts
 
 returns : tie.Need-returns
 returns c = sym (pending-is (c .before .args .self))

@@ -8,20 +8,11 @@ use Rattle.sync.proofs.Sends.{resent, whole, in-place, can, short, out-
 use borrow.Author.Needs.{needs}
 use Rattle.sync.proofs.frames.frame.Statement.{statement}
 use Rattle.sync.proofs.frames.frame.Tie as tie
-use Rattle.sync.proofs.frames.frame.Reads as reads
-use Rattle.sync.proofs.frames.frame.Lts as lts
-use Rattle.sync.proofs.frames.frame_at.Reads as frame-at-reads
-use Rattle.sync.proofs.frames.front.Reads as front-reads
-use Rattle.sync.proofs.markers.segment_at.Reads as segment-at-reads
-use Rattle.sync.proofs.numbers.shifted.Reads as shifted-reads
 
 frame-at-requires : tie.Need-frame-at-requires
 frame-at-requires c κs =
     let s = c .before .before .before in
     (s .pre .0, (whole (now (s .args .bits)) (now (s .args .reliabilities)) (s .args .c) (s .args .placed) (s .pre .1 .0) (s .pre .1 .1 .0), s .pre .1 .1 .1))
-
-same-length : tie.Need-same-length
-same-length c = search needs
 
 returns : tie.Need-returns
 returns c =
@@ -33,21 +24,6 @@ front-requires c κs =
     let s = c .before .before in
     let r = s .pre .1 .0 in
     (s .pre .0, (r .sound, (r .more (c .if1 .left), (r .slips, r .low))))
-
-add-base : tie.Need-add-base
-add-base c = search needs
-
-segment-at-requires : tie.Need-segment-at-requires
-segment-at-requires c κs = search needs
-
-add-at : tie.Need-add-at
-add-at c = search needs
-
-segment-at-requires-2 : tie.Need-segment-at-requires-2
-segment-at-requires-2 c κs = search needs
-
-shifted-requires : tie.Need-shifted-requires
-shifted-requires c κs = search needs
 
 frame-at-requires-2 : tie.Need-frame-at-requires-2
 frame-at-requires-2 c κs =
@@ -64,9 +40,6 @@ frame-at-requires-2 c κs =
         s .pre .1 .1 .1,
       ),
     )
-
-same-length-2 : tie.Need-same-length-2
-same-length-2 c = search needs
 
 returns-2 : tie.Need-returns-2
 returns-2 c =
@@ -86,14 +59,14 @@ frame-spec =
     tie.close
     (tie.spec
     frame-at-requires
-    same-length
+    (λ c. search needs)
     returns
     front-requires
-    add-base
-    segment-at-requires
-    add-at
-    segment-at-requires-2
-    shifted-requires
+    (λ c. search needs)
+    (λ c κs. search needs)
+    (λ c. search needs)
+    (λ c κs. search needs)
+    (λ c κs. search needs)
     frame-at-requires-2
-    same-length-2
+    (λ c. search needs)
     returns-2)

@@ -9,37 +9,6 @@ use Rattle.sync.proofs.Framing.{goes-out}
 use borrow.Author.Needs.{needs}
 use Rattle.sync.proofs.frames.frame_at.Statement.{statement}
 use Rattle.sync.proofs.frames.frame_at.Tie as tie
-use Rattle.sync.proofs.frames.frame_at.Reads as reads
-use Rattle.sync.proofs.frames.frame_at.Lts as lts
-use Rattle.sync.proofs.room.lay_bits.Reads as lay-bits-reads
-use Rattle.sync.proofs.room.lay_soft.Reads as lay-soft-reads
-use Rattle.sync.proofs.markers.marker.Reads as marker-reads
-use Rattle.sync.proofs.numbers.sent.Reads as sent-reads
-use Rattle.sync.proofs.markers.two_of.Reads as two-of-reads
-
-add-base : tie.Need-add-base
-add-base c = search needs
-
-marker-requires : tie.Need-marker-requires
-marker-requires c κs = search needs
-
-add-marker : tie.Need-add-marker
-add-marker c = search needs
-
-marker-requires-2 : tie.Need-marker-requires-2
-marker-requires-2 c κs = search needs
-
-add-marker-2 : tie.Need-add-marker-2
-add-marker-2 c = search needs
-
-marker-requires-3 : tie.Need-marker-requires-3
-marker-requires-3 c κs = search needs
-
-two-of-requires : tie.Need-two-of-requires
-two-of-requires c κs = search needs
-
-lay-bits-requires : tie.Need-lay-bits-requires
-lay-bits-requires c κs = search needs
 
 add-lay-soft : tie.Need-add-lay-soft
 add-lay-soft c = record { fits = omega (arith, c .before .before .before .before .before .before .before .before .before .before .before .pre .1 .1, c .before .before .before .before .before .before .before .before .before .before .before .good .1 .1 .1 .0 .0) }
@@ -61,9 +30,6 @@ add-t21 c = record { fits = omega (arith, c .before .before .before .before .bef
 add-t22 : tie.Need-add-t22
 add-t22 c = record { fits = omega (arith, c .before .before .before .before .before .before .before .before .before .before .before .before .before .before .before .marker .ensures .1 .1, c .before .before .before .before .before .before .before .before .before .before .before .before .before .before .marker2 .ensures .1 .1, c .before .before .before .before .before .before .before .before .before .before .before .before .before .marker3 .ensures .1 .1) }
 
-same-length : tie.Need-same-length
-same-length c = search needs
-
 returns : tie.Need-returns
 returns c =
     let s = c .before .before .before .before .before .before .before .before .before .before .before .before .before .before .before .before .before .before in
@@ -82,18 +48,18 @@ pub frame-at-spec : {M : Type 1} → statement M
 frame-at-spec =
     tie.close
     (tie.spec
-    add-base
-    marker-requires
-    add-marker
-    marker-requires-2
-    add-marker-2
-    marker-requires-3
-    two-of-requires
-    lay-bits-requires
+    (λ c. search needs)
+    (λ c κs. search needs)
+    (λ c. search needs)
+    (λ c κs. search needs)
+    (λ c. search needs)
+    (λ c κs. search needs)
+    (λ c κs. search needs)
+    (λ c κs. search needs)
     add-lay-soft
     lay-soft-requires
     sent-requires
     add-t21
     add-t22
-    same-length
+    (λ c. search needs)
     returns)

@@ -9,17 +9,6 @@ use Rattle.sync.proofs.Fronts.{stays, later, none, still, earlier}
 use borrow.Author.Needs.{needs}
 use Rattle.sync.proofs.frames.front.Statement.{statement}
 use Rattle.sync.proofs.frames.front.Tie as tie
-use Rattle.sync.proofs.frames.front.Reads as reads
-use Rattle.sync.proofs.frames.front.Lts as lts
-use Rattle.sync.proofs.numbers.dropped.Reads as dropped-reads
-use Rattle.sync.proofs.markers.matches_at.Reads as matches-at-reads
-use Rattle.sync.proofs.numbers.restored.Reads as restored-reads
-
-add-base : tie.Need-add-base
-add-base c = search needs
-
-matches-at-requires : tie.Need-matches-at-requires
-matches-at-requires c κs = search needs
 
 returns : tie.Need-returns
 returns c =
@@ -28,30 +17,12 @@ returns c =
     let xs = now (s .args .bits) in
     stays xs k (s .pre .1 .0) (s .pre .1 .1 .0) (s .pre .1 .1 .1 .0) _ (c .before .matches-at .ensures (k .first + k .restorable) 0 (k .pending) (add-zero _) (omega arith)) (c .if1 .taken)
 
-add-matches-at : tie.Need-add-matches-at
-add-matches-at c = search needs
-
-matches-at-requires-2 : tie.Need-matches-at-requires-2
-matches-at-requires-2 c κs = search needs
-
-dropped-requires : tie.Need-dropped-requires
-dropped-requires c κs = search needs
-
-add-d : tie.Need-add-d
-add-d c = search needs
-
 returns-2 : tie.Need-returns-2
 returns-2 c =
     let s = c .before .before .before .before .before .before .before in
     let k = s .args .c in
     let xs = now (s .args .bits) in
     later xs k (s .pre .1 .0) (s .pre .1 .1 .0) (s .pre .1 .1 .1 .0) _ (c .before .before .before .before .before .matches-at .ensures (k .first + k .restorable) 0 (k .pending) (add-zero _) (omega arith)) (c .before .before .before .before .if1 .left) _ (c .before .before .before .matches-at2 .ensures (k .first + k .restorable) 2 (k .pending) refl (omega arith)) (c .before .before .if2 .taken) _ (c .before .dropped .ensures)
-
-matches-at-requires-3 : tie.Need-matches-at-requires-3
-matches-at-requires-3 c κs = search needs
-
-restored-requires : tie.Need-restored-requires
-restored-requires c κs = search needs
 
 add-g : tie.Need-add-g
 add-g c = record { fits = omega (arith, c .before .before .before .before .before .before .before .before .before .before .before .pre .1 .1 .1 .0, c .before .before .before .before .before .before .before .before .before .before .before .pre .1 .0 .grid, c .before .before .before .before .before .before .before .before .before .before .before .pre .1 .0 .tide, c .before .before .before .before .before .before .before .before .before .before .before .pre .1 .0 .taken-few) }
@@ -81,16 +52,16 @@ pub front-spec : {M : Type 1} → statement M
 front-spec =
     tie.close
     (tie.spec
-    add-base
-    matches-at-requires
+    (λ c. search needs)
+    (λ c κs. search needs)
     returns
-    add-matches-at
-    matches-at-requires-2
-    dropped-requires
-    add-d
+    (λ c. search needs)
+    (λ c κs. search needs)
+    (λ c κs. search needs)
+    (λ c. search needs)
     returns-2
-    matches-at-requires-3
-    restored-requires
+    (λ c κs. search needs)
+    (λ c κs. search needs)
     add-g
     returns-3
     returns-4

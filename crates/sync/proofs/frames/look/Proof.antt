@@ -9,21 +9,12 @@ use Rattle.sync.proofs.Looks.{asleep, short, placed, waits, slips}
 use borrow.Author.Needs.{needs}
 use Rattle.sync.proofs.frames.look.Statement.{statement}
 use Rattle.sync.proofs.frames.look.Tie as tie
-use Rattle.sync.proofs.frames.look.Reads as reads
-use Rattle.sync.proofs.frames.look.Lts as lts
-use Rattle.sync.proofs.markers.in_place.Reads as in-place-reads
 
 returns : tie.Need-returns
 returns c =
     let s = c .before .before .before in
     let k = s .args .c in
     short _ k (s .pre .1) (c .before .before .if1 .taken) (c .if2 .taken)
-
-add-base : tie.Need-add-base
-add-base c = search needs
-
-in-place-requires : tie.Need-in-place-requires
-in-place-requires c κs = search needs
 
 returns-2 : tie.Need-returns-2
 returns-2 c =
@@ -51,4 +42,4 @@ returns-5 c =
 
 pub look-spec : {M : Type 1} → statement M
 look-spec =
-    tie.close (tie.spec returns add-base in-place-requires returns-2 returns-3 returns-4 returns-5)
+    tie.close (tie.spec returns (λ c. search needs) (λ c κs. search needs) returns-2 returns-3 returns-4 returns-5)

@@ -8,24 +8,6 @@ use Rattle.bits.proofs.Tests.{and-ttx, and-tf, and-f}
 use borrow.Author.Needs.{needs}
 use Rattle.sync.proofs.markers.in_place.Statement.{statement}
 use Rattle.sync.proofs.markers.in_place.Tie as tie
-use Rattle.sync.proofs.markers.in_place.Reads as reads
-use Rattle.sync.proofs.markers.in_place.Lts as lts
-use Rattle.sync.proofs.markers.matches_at.Reads as matches-at-reads
-
-matches-at-requires : tie.Need-matches-at-requires
-matches-at-requires c κs = search needs
-
-add-matches-at : tie.Need-add-matches-at
-add-matches-at c = search needs
-
-matches-at-requires-2 : tie.Need-matches-at-requires-2
-matches-at-requires-2 c κs = search needs
-
-add-matches-at-2 : tie.Need-add-matches-at-2
-add-matches-at-2 c = search needs
-
-matches-at-requires-3 : tie.Need-matches-at-requires-3
-matches-at-requires-3 c κs = search needs
 
 returns : tie.Need-returns
 unfolding inPlace
@@ -50,11 +32,11 @@ pub in-place-spec : {M : Type 1} → statement M
 in-place-spec =
     tie.close
     (tie.spec
-    matches-at-requires
-    add-matches-at
-    matches-at-requires-2
-    add-matches-at-2
-    matches-at-requires-3
+    (λ c κs. search needs)
+    (λ c. search needs)
+    (λ c κs. search needs)
+    (λ c. search needs)
+    (λ c κs. search needs)
     returns
     returns-2
     returns-3)

@@ -19,21 +19,6 @@ use Rattle.sync.proofs.Rings.{length-ring}
 use Rattle.sync.proofs.Marks.{marker-small, xor-differing, marker-spelled, marker-length, marker-binary, ring-binary, sixteen-ring}
 use Rattle.sync.proofs.markers.marker.Statement.{statement}
 use Rattle.sync.proofs.markers.marker.Tie as tie
-use Rattle.sync.proofs.markers.marker.Reads as reads
-use Rattle.sync.proofs.markers.marker.Lts as lts
-use Rattle.sync.proofs.markers.spelled.Reads as spelled-reads
-
-spelled-requires : tie.Need-spelled-requires
-spelled-requires c κs = search needs
-
-mul-expected : tie.Need-mul-expected
-mul-expected c = search needs
-
-array-read-expected : tie.Need-array-read-expected
-array-read-expected c = search needs
-
-markers-requires : tie.Need-markers-requires
-markers-requires c κs = search needs
 
 returns : tie.Need-returns
 unfolding matches errors ones
@@ -59,4 +44,4 @@ returns c =
     )
 
 pub marker-spec : {M : Type 1} → statement M
-marker-spec = tie.close (tie.spec spelled-requires markers-requires mul-expected array-read-expected returns)
+marker-spec = tie.close (tie.spec (λ c κs. search needs) (λ c κs. search needs) (λ c. search needs) (λ c. search needs) returns)

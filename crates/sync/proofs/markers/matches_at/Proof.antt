@@ -13,26 +13,6 @@ use Rattle.sync.proofs.Marks.{sixteen-ring, head-differs}
 use borrow.Author.Needs.{needs}
 use Rattle.sync.proofs.markers.matches_at.Statement.{statement}
 use Rattle.sync.proofs.markers.matches_at.Tie as tie
-use Rattle.sync.proofs.markers.matches_at.Reads as reads
-use Rattle.sync.proofs.markers.matches_at.Lts as lts
-use Rattle.coding.proofs.markers.Reads as markers-reads
-use Rattle.sync.proofs.markers.marker.Reads as marker-reads
-use Rattle.sync.proofs.markers.spelled.Reads as spelled-reads
-
-add-spelled : tie.Need-add-spelled
-add-spelled c = search needs
-
-spelled-requires : tie.Need-spelled-requires
-spelled-requires c κs = search needs
-
-markers-requires : tie.Need-markers-requires
-markers-requires c κs = search needs
-
-mul-expected : tie.Need-mul-expected
-mul-expected c = search needs
-
-array-read-expected : tie.Need-array-read-expected
-array-read-expected c = search needs
 
 returns : tie.Need-returns
 unfolding matches
@@ -45,21 +25,15 @@ returns c =
     λ f p k e h. sym (ap (λ (l : List ℕ). eqb (spell 0 l % 16384) (marker (a .segment) % 16384)) (sym (sixteen-ring xs (a .from) f p k e h))
     ∙ ne-eqb _ _ (head-differs xs (a .from) (marker (a .segment)) _ (s .pre .0) (c .before .before .spelled .ensures) n))
 
-marker-requires : tie.Need-marker-requires
-marker-requires c κs = search needs
-
-returns-2 : tie.Need-returns-2
-returns-2 c = search needs
-
 pub matches-at-spec : {M : Type 1} → statement M
 matches-at-spec =
     tie.close
     (tie.spec
-    add-spelled
-    spelled-requires
-    markers-requires
-    mul-expected
-    array-read-expected
+    (λ c. search needs)
+    (λ c κs. search needs)
+    (λ c κs. search needs)
+    (λ c. search needs)
+    (λ c. search needs)
     returns
-    marker-requires
-    returns-2)
+    (λ c κs. search needs)
+    (λ c. search needs))

@@ -17,9 +17,6 @@ use Rattle.sync_rules.specs.Matching.{spell}
 use Rattle.sync.proofs.Rings.{spell-lt, spell-more}
 use Rattle.sync.proofs.markers.spelled.Statement.{statement}
 use Rattle.sync.proofs.markers.spelled.Tie as tie
-use Rattle.sync.proofs.markers.spelled.Reads as reads
-use Rattle.sync.proofs.markers.spelled.Lts as lts
-use Rattle.sync.proofs.markers.wide.Reads as wide-reads
 
 abbrev Inv-loop : tie.InvT-loop
 Inv-loop bits from count value₀ at₀ i₀ value at i = (i ≤ count) × (at ≡ (from + i) % 1155) × (value ≡ spell 0 (ring bits from i))
@@ -42,12 +39,6 @@ mul-value c =
     let v : l .value < 32768 = below (now (a .args .bits)) (a .args .from) (l .i) (l .value) (a .pre .0) (omega arith) (l .inv .2) in
     record { fits = omega arith }
 
-element-copy-out-wide : tie.Need-element-copy-out-wide Inv-loop μ-loop
-element-copy-out-wide c = omega arith
-
-wide-requires : tie.Need-wide-requires Inv-loop μ-loop
-wide-requires c κs = search needs
-
 add-value : tie.Need-add-value Inv-loop μ-loop
 add-value c =
     let a = c .before .before .before .before in
@@ -57,12 +48,6 @@ add-value c =
 
 add-at : tie.Need-add-at Inv-loop μ-loop
 add-at c = record { fits = omega arith }
-
-add-i : tie.Need-add-i Inv-loop μ-loop
-add-i c = omega arith
-
-loop-less : tie.Need-loop-less Inv-loop μ-loop
-loop-less c = omega arith
 
 loop-again : tie.Need-loop-again Inv-loop μ-loop
 loop-again c =
@@ -81,4 +66,4 @@ returns c =
 pub spelled-spec : {M : Type 1} → statement M
 spelled-spec =
     tie.close
-    (tie.spec Inv-loop μ-loop loop-holds mul-value element-copy-out-wide wide-requires add-value add-at add-i loop-less loop-again returns)
+    (tie.spec Inv-loop μ-loop loop-holds mul-value (λ c. omega arith) (λ c κs. search needs) add-value add-at (λ c. omega arith) (λ c. omega arith) loop-again returns)

@@ -8,24 +8,6 @@ use Rattle.bits.proofs.Tests.{and-ttx, and-tf, and-f}
 use borrow.Author.Needs.{needs}
 use Rattle.sync.proofs.markers.three_frames.Statement.{statement}
 use Rattle.sync.proofs.markers.three_frames.Tie as tie
-use Rattle.sync.proofs.markers.three_frames.Reads as reads
-use Rattle.sync.proofs.markers.three_frames.Lts as lts
-use Rattle.sync.proofs.markers.two_of_three.Reads as two-of-three-reads
-
-two-of-three-requires : tie.Need-two-of-three-requires
-two-of-three-requires c κs = search needs
-
-add-two-of-three : tie.Need-add-two-of-three
-add-two-of-three c = search needs
-
-two-of-three-requires-2 : tie.Need-two-of-three-requires-2
-two-of-three-requires-2 c κs = search needs
-
-add-two-of-three-2 : tie.Need-add-two-of-three-2
-add-two-of-three-2 c = search needs
-
-two-of-three-requires-3 : tie.Need-two-of-three-requires-3
-two-of-three-requires-3 c κs = search needs
 
 returns : tie.Need-returns
 unfolding locksAt
@@ -50,11 +32,11 @@ pub three-frames-spec : {M : Type 1} → statement M
 three-frames-spec =
     tie.close
     (tie.spec
-    two-of-three-requires
-    add-two-of-three
-    two-of-three-requires-2
-    add-two-of-three-2
-    two-of-three-requires-3
+    (λ c κs. search needs)
+    (λ c. search needs)
+    (λ c κs. search needs)
+    (λ c. search needs)
+    (λ c κs. search needs)
     returns
     returns-2
     returns-3)

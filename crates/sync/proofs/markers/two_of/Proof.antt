@@ -5,8 +5,6 @@ use Rattle.sync_rules.specs.Matching.{twoOf}
 use Rattle.sync_rules.proofs.Tests.{two-tf, two-ft}
 use Rattle.sync.proofs.markers.two_of.Statement.{statement}
 use Rattle.sync.proofs.markers.two_of.Tie as tie
-use Rattle.sync.proofs.markers.two_of.Reads as reads
-use Rattle.sync.proofs.markers.two_of.Lts as lts
 
 returns : tie.Need-returns
 unfolding twoOf

@@ -7,40 +7,16 @@ use Rattle.sync_rules.proofs.Tests.{two-both, two-left, two-right, two-neither}
 use borrow.Author.Needs.{needs}
 use Rattle.sync.proofs.markers.two_of_three.Statement.{statement}
 use Rattle.sync.proofs.markers.two_of_three.Tie as tie
-use Rattle.sync.proofs.markers.two_of_three.Reads as reads
-use Rattle.sync.proofs.markers.two_of_three.Lts as lts
-use Rattle.sync.proofs.markers.matches_at.Reads as matches-at-reads
-
-matches-at-requires : tie.Need-matches-at-requires
-matches-at-requires c κs = search needs
-
-add-matches-at : tie.Need-add-matches-at
-add-matches-at c = search needs
-
-matches-at-requires-2 : tie.Need-matches-at-requires-2
-matches-at-requires-2 c κs = search needs
 
 returns : tie.Need-returns
 unfolding shows
 returns c =
     λ f p n e h. two-both _ _ _ _ _ (c .before .before .before .matches-at .ensures f p n e (omega arith)) (c .before .if1 .taken) (c .before .before .matches-at2 .ensures f (p + 128) n (omega arith) (omega arith)) (c .if2 .taken)
 
-add-matches-at-2 : tie.Need-add-matches-at-2
-add-matches-at-2 c = search needs
-
-matches-at-requires-3 : tie.Need-matches-at-requires-3
-matches-at-requires-3 c κs = search needs
-
 returns-2 : tie.Need-returns-2
 unfolding shows
 returns-2 c =
     λ f p n e h. two-left _ _ _ _ _ _ (c .before .before .before .before .matches-at .ensures f p n e (omega arith)) (c .before .before .if1 .taken) (c .before .before .before .matches-at2 .ensures f (p + 128) n (omega arith) (omega arith)) (c .before .if2 .left) (c .matches-at3 .ensures f (p + 256) n (omega arith) (omega arith))
-
-add-matches-at-3 : tie.Need-add-matches-at-3
-add-matches-at-3 c = search needs
-
-matches-at-requires-4 : tie.Need-matches-at-requires-4
-matches-at-requires-4 c κs = search needs
 
 returns-3 : tie.Need-returns-3
 unfolding shows
@@ -56,14 +32,14 @@ pub two-of-three-spec : {M : Type 1} → statement M
 two-of-three-spec =
     tie.close
     (tie.spec
-    matches-at-requires
-    add-matches-at
-    matches-at-requires-2
+    (λ c κs. search needs)
+    (λ c. search needs)
+    (λ c κs. search needs)
     returns
-    add-matches-at-2
-    matches-at-requires-3
+    (λ c. search needs)
+    (λ c κs. search needs)
     returns-2
-    add-matches-at-3
-    matches-at-requires-4
+    (λ c. search needs)
+    (λ c κs. search needs)
     returns-3
     returns-4)

@@ -7,8 +7,6 @@ use borrow.Author.Tests.{lt-ltb, le-ltb}
 use Rattle.bits.proofs.Tests.{cond-yes, cond-no}
 use Rattle.sync.proofs.numbers.beyond.Statement.{statement}
 use Rattle.sync.proofs.numbers.beyond.Tie as tie
-use Rattle.sync.proofs.numbers.beyond.Reads as reads
-use Rattle.sync.proofs.numbers.beyond.Lts as lts
 
 returns : tie.Need-returns
 returns c = (cond-yes _ true _ _ (sym (lt-ltb _ _ (c .if1 .taken))) refl, omega arith)

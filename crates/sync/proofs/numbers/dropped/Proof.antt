@@ -14,20 +14,6 @@ use Rattle.sync_rules.specs.State.{pass, State}
 use Rattle.sync.proofs.Rings.{drop-ring, ring-mod}
 use Rattle.sync.proofs.numbers.dropped.Statement.{statement}
 use Rattle.sync.proofs.numbers.dropped.Tie as tie
-use Rattle.sync.proofs.numbers.dropped.Reads as reads
-use Rattle.sync.proofs.numbers.dropped.Lts as lts
-
-add-passed : tie.Need-add-passed
-add-passed c = search needs
-
-sub-d : tie.Need-sub-d
-sub-d c = search needs
-
-sub-d-2 : tie.Need-sub-d-2
-sub-d-2 c = search needs
-
-add-d : tie.Need-add-d
-add-d c = search needs
 
 -- what is held after a drop, by the new place and count
 held : (xs : List ℕ) (f o l k f′ n : ℕ) → f′ % 1155 ≡ (f + (o + k - 2)) % 1155 → n ≡ o + l - (o + k - 2) → ring xs f′ n ≡ drop (o + k - 2) (ring xs f (o + l))
@@ -65,4 +51,4 @@ returns-2 c =
     record { sound = record { first-in = omega arith; restorable-few = omega arith; held-few = omega arith; taken-few = omega arith; tide = omega arith; grid = omega arith; synchronised-few = omega arith; slips-few = omega arith; failures-few = omega arith }; count = omega arith; pending = refl; same = λ xs ys. alike (viewOf xs ys a) _ _ _ _ _ _ (held xs (a .first) (a .restorable) (a .pending) k _ _ e n) (held ys (a .first) (a .restorable) (a .pending) k _ _ e n) (least′ (a .restorable + k) (omega arith)) }
 
 pub dropped-spec : {M : Type 1} → statement M
-dropped-spec = tie.close (tie.spec add-passed sub-d sub-d-2 add-d returns returns-2)
+dropped-spec = tie.close (tie.spec (λ c. search needs) (λ c. search needs) (λ c. search needs) (λ c. search needs) returns returns-2)

@@ -7,11 +7,6 @@ use borrow.Author.Needs.{needs}
 use Rattle.sync_rules.specs.State.{restore}
 use Rattle.sync.proofs.numbers.restored.Statement.{statement}
 use Rattle.sync.proofs.numbers.restored.Tie as tie
-use Rattle.sync.proofs.numbers.restored.Reads as reads
-use Rattle.sync.proofs.numbers.restored.Lts as lts
-
-add-d : tie.Need-add-d
-add-d c = search needs
 
 swap : (a b : ℕ) → 0 + (b + a) ≡ a + b
 swap a b = omega arith
@@ -21,4 +16,4 @@ unfolding restore
 returns c = record { sound = search needs; count = search needs; same = λ xs ys. rw swap }
 
 pub restored-spec : {M : Type 1} → statement M
-restored-spec = tie.close (tie.spec add-d returns)
+restored-spec = tie.close (tie.spec (λ c. search needs) returns)

@@ -7,9 +7,6 @@ use Rattle.sync.specs.declared.numbers.Numbers.{Numbers}
 use Rattle.sync.specs.Steps.{withMoves}
 use Rattle.sync.proofs.numbers.shifted.Statement.{statement}
 use Rattle.sync.proofs.numbers.shifted.Tie as tie
-use Rattle.sync.proofs.numbers.shifted.Reads as reads
-use Rattle.sync.proofs.numbers.shifted.Lts as lts
-use Rattle.sync.proofs.numbers.beyond.Reads as beyond-reads
 
 mk : Numbers → ℕ → ℕ → Numbers
 mk c a b = withMoves c a b
@@ -24,36 +21,6 @@ with-like c a a′ b b′ p q = with-likes c a a′ b b′ p q
 sum-like : (k a b a′ b′ : ℕ) → a ≡ a′ → b ≡ b′ → k + a + b ≡ k + a′ + b′
 sum-like k a b a′ b′ p q = cc
 
-beyond-requires : tie.Need-beyond-requires
-beyond-requires c κs = search needs
-
-add-beyond : tie.Need-add-beyond
-add-beyond c = search needs
-
-beyond-requires-2 : tie.Need-beyond-requires-2
-beyond-requires-2 c κs = search needs
-
-add-d : tie.Need-add-d
-add-d c = search needs
-
-add-d-2 : tie.Need-add-d-2
-add-d-2 c = search needs
-
-beyond-requires-3 : tie.Need-beyond-requires-3
-beyond-requires-3 c κs = search needs
-
-add-beyond-2 : tie.Need-add-beyond-2
-add-beyond-2 c = search needs
-
-beyond-requires-4 : tie.Need-beyond-requires-4
-beyond-requires-4 c κs = search needs
-
-add-d-3 : tie.Need-add-d-3
-add-d-3 c = search needs
-
-add-d-4 : tie.Need-add-d-4
-add-d-4 c = search needs
-
 returns : tie.Need-returns
 returns c =
     with-like (c .before .before .before .before .before .before .args .c) _ _ _ _ (sum-like _ _ _ _ _ (c .before .before .before .before .before .beyond .ensures .0) (c .before .before .before .before .beyond2 .ensures .0))
@@ -63,14 +30,14 @@ pub shifted-spec : {M : Type 1} → statement M
 shifted-spec =
     tie.close
     (tie.spec
-    beyond-requires
-    add-beyond
-    beyond-requires-2
-    add-d
-    add-d-2
-    beyond-requires-3
-    add-beyond-2
-    beyond-requires-4
-    add-d-3
-    add-d-4
+    (λ c κs. search needs)
+    (λ c. search needs)
+    (λ c κs. search needs)
+    (λ c. search needs)
+    (λ c. search needs)
+    (λ c κs. search needs)
+    (λ c. search needs)
+    (λ c κs. search needs)
+    (λ c. search needs)
+    (λ c. search needs)
     returns)

@@ -11,9 +11,6 @@ use Rattle.sync.proofs.Finds.{first-here, first-next, first-none}
 use borrow.Author.Needs.{needs}
 use Rattle.sync.proofs.pushes.find.Statement.{statement}
 use Rattle.sync.proofs.pushes.find.Tie as tie
-use Rattle.sync.proofs.pushes.find.Reads as reads
-use Rattle.sync.proofs.pushes.find.Lts as lts
-use Rattle.sync.proofs.markers.three_frames.Reads as three-frames-reads
 
 abbrev Inv-loop : tie.InvT-loop
 Inv-loop bits base tries pos₀ pos =
@@ -28,20 +25,11 @@ loop-holds c = (search needs, λ n h. ap (firstOf (locksAt (ring (now (c .args .
 add-three-frames : tie.Need-add-three-frames Inv-loop μ-loop
 add-three-frames c = record { fits = omega arith }
 
-three-frames-requires : tie.Need-three-frames-requires Inv-loop μ-loop
-three-frames-requires c κs = search needs
-
 returns : tie.Need-returns Inv-loop μ-loop
 returns c =
     let l = c .before .before .before .loop in
     let t = c .before .before .loop-test .taken in
     (λ n h. sym (l .inv .1 n h ∙ first-here _ (l .pos) _ (sym (c .before .three-frames .ensures _ (l .pos) n refl (h (l .pos) t)) ∙ c .if1 .taken) (omega arith)), omega arith)
-
-add-pos : tie.Need-add-pos Inv-loop μ-loop
-add-pos c = omega arith
-
-loop-less : tie.Need-loop-less Inv-loop μ-loop
-loop-less c = omega arith
 
 loop-again : tie.Need-loop-again Inv-loop μ-loop
 loop-again c =
@@ -62,9 +50,9 @@ find-spec =
     μ-loop
     loop-holds
     add-three-frames
-    three-frames-requires
+    (λ c κs. search needs)
     returns
-    add-pos
-    loop-less
+    (λ c. omega arith)
+    (λ c. omega arith)
     loop-again
     returns-2)

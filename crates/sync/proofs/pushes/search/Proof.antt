@@ -10,29 +10,9 @@ use Rattle.sync.proofs.Searches.{unmoved, found, missed}
 use borrow.Author.Needs.{needs}
 use Rattle.sync.proofs.pushes.search.Statement.{statement}
 use Rattle.sync.proofs.pushes.search.Tie as tie
-use Rattle.sync.proofs.pushes.search.Reads as reads
-use Rattle.sync.proofs.pushes.search.Lts as lts
-use Rattle.sync.proofs.numbers.dropped.Reads as dropped-reads
-use Rattle.sync.proofs.pushes.find.Reads as find-reads
-use Rattle.sync.proofs.pushes.tries_of.Reads as tries-of-reads
 
 returns : tie.Need-returns
 returns c = unmoved _ _ (c .before .pre .1 .0) (c .before .pre .1 .1 .0) (c .before .pre .1 .1 .1) (c .if1 .taken)
-
-add-base : tie.Need-add-base
-add-base c = search needs
-
-tries-of-requires : tie.Need-tries-of-requires
-tries-of-requires c κs = search needs
-
-find-requires : tie.Need-find-requires
-find-requires c κs = search needs
-
-dropped-requires : tie.Need-dropped-requires
-dropped-requires c κs = search needs
-
-add-d : tie.Need-add-d
-add-d c = search needs
 
 returns-2 : tie.Need-returns-2
 returns-2 c =
@@ -61,10 +41,10 @@ search-spec =
     tie.close
     (tie.spec
     returns
-    add-base
-    tries-of-requires
-    find-requires
-    dropped-requires
-    add-d
+    (λ c. search needs)
+    (λ c κs. search needs)
+    (λ c κs. search needs)
+    (λ c κs. search needs)
+    (λ c. search needs)
     returns-2
     returns-3)

@@ -12,33 +12,6 @@ use Rattle.sync.proofs.Rooms.{three-runs, bytesOf-runs, length-bytesOf}
 use borrow.Author.Needs.{needs}
 use Rattle.sync.proofs.room.lay_bits.Statement.{statement}
 use Rattle.sync.proofs.room.lay_bits.Tie as tie
-use Rattle.sync.proofs.room.lay_bits.Reads as reads
-use Rattle.sync.proofs.room.lay_bits.Lts as lts
-use Rattle.sync.proofs.room.write_bits.Reads as write-bits-reads
-
-write-bits-requires : tie.Need-write-bits-requires
-write-bits-requires c κs = search needs
-
-add-write-bits : tie.Need-add-write-bits
-add-write-bits c = search needs
-
-add-write-bits-2 : tie.Need-add-write-bits-2
-add-write-bits-2 c = search needs
-
-write-bits-requires-2 : tie.Need-write-bits-requires-2
-write-bits-requires-2 c κs = search needs
-
-add-write-bits-3 : tie.Need-add-write-bits-3
-add-write-bits-3 c = search needs
-
-add-write-bits-4 : tie.Need-add-write-bits-4
-add-write-bits-4 c = search needs
-
-write-bits-requires-3 : tie.Need-write-bits-requires-3
-write-bits-requires-3 c κs = search needs
-
-same-length : tie.Need-same-length
-same-length c = search needs
 
 returns : tie.Need-returns
 returns c =
@@ -55,12 +28,12 @@ pub lay-bits-spec : {M : Type 1} → statement M
 lay-bits-spec =
     tie.close
     (tie.spec
-    write-bits-requires
-    add-write-bits
-    add-write-bits-2
-    write-bits-requires-2
-    add-write-bits-3
-    add-write-bits-4
-    write-bits-requires-3
-    same-length
+    (λ c κs. search needs)
+    (λ c. search needs)
+    (λ c. search needs)
+    (λ c κs. search needs)
+    (λ c. search needs)
+    (λ c. search needs)
+    (λ c κs. search needs)
+    (λ c. search needs)
     returns)

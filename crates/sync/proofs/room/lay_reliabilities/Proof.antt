@@ -12,33 +12,6 @@ use Rattle.sync.proofs.Rooms.{three-runs, bytesOf-runs, length-bytesOf}
 use borrow.Author.Needs.{needs}
 use Rattle.sync.proofs.room.lay_reliabilities.Statement.{statement}
 use Rattle.sync.proofs.room.lay_reliabilities.Tie as tie
-use Rattle.sync.proofs.room.lay_reliabilities.Reads as reads
-use Rattle.sync.proofs.room.lay_reliabilities.Lts as lts
-use Rattle.sync.proofs.room.write_reliabilities.Reads as write-reliabilities-reads
-
-write-reliabilities-requires : tie.Need-write-reliabilities-requires
-write-reliabilities-requires c κs = search needs
-
-add-write-reliabilities : tie.Need-add-write-reliabilities
-add-write-reliabilities c = search needs
-
-add-write-reliabilities-2 : tie.Need-add-write-reliabilities-2
-add-write-reliabilities-2 c = search needs
-
-write-reliabilities-requires-2 : tie.Need-write-reliabilities-requires-2
-write-reliabilities-requires-2 c κs = search needs
-
-add-write-reliabilities-3 : tie.Need-add-write-reliabilities-3
-add-write-reliabilities-3 c = search needs
-
-add-write-reliabilities-4 : tie.Need-add-write-reliabilities-4
-add-write-reliabilities-4 c = search needs
-
-write-reliabilities-requires-3 : tie.Need-write-reliabilities-requires-3
-write-reliabilities-requires-3 c κs = search needs
-
-same-length : tie.Need-same-length
-same-length c = search needs
 
 returns : tie.Need-returns
 unfolding runs
@@ -55,12 +28,12 @@ pub lay-reliabilities-spec : {M : Type 1} → statement M
 lay-reliabilities-spec =
     tie.close
     (tie.spec
-    write-reliabilities-requires
-    add-write-reliabilities
-    add-write-reliabilities-2
-    write-reliabilities-requires-2
-    add-write-reliabilities-3
-    add-write-reliabilities-4
-    write-reliabilities-requires-3
-    same-length
+    (λ c κs. search needs)
+    (λ c. search needs)
+    (λ c. search needs)
+    (λ c κs. search needs)
+    (λ c. search needs)
+    (λ c. search needs)
+    (λ c κs. search needs)
+    (λ c. search needs)
     returns)

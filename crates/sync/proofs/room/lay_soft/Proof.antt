@@ -9,15 +9,6 @@ use Rattle.sync.specs.Ring.{runs}
 use borrow.Author.Needs.{needs}
 use Rattle.sync.proofs.room.lay_soft.Statement.{statement}
 use Rattle.sync.proofs.room.lay_soft.Tie as tie
-use Rattle.sync.proofs.room.lay_soft.Reads as reads
-use Rattle.sync.proofs.room.lay_soft.Lts as lts
-use Rattle.sync.proofs.room.lay_reliabilities.Reads as lay-reliabilities-reads
-
-lay-reliabilities-requires : tie.Need-lay-reliabilities-requires
-lay-reliabilities-requires c κs = search needs
-
-same-length : tie.Need-same-length
-same-length c = search needs
 
 returns : tie.Need-returns
 returns c =
@@ -30,4 +21,4 @@ returns-2 c =
     ap (λ (t : Bool). sets (now (a .room)) (a .to) (cond t (runs (now (a .reliabilities)) (a .base) (a .p) (a .q)) [])) (sym (c .if1 .left))
 
 pub lay-soft-spec : {M : Type 1} → statement M
-lay-soft-spec = tie.close (tie.spec lay-reliabilities-requires same-length returns returns-2)
+lay-soft-spec = tie.close (tie.spec (λ c κs. search needs) (λ c. search needs) returns returns-2)

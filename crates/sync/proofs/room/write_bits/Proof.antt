@@ -16,9 +16,6 @@ use Rattle.sync.proofs.Rings.{spell-lt, ring-snoc, length-ring}
 use Rattle.sync.proofs.Rooms.{sets-more, bytesOf-ring, length-bytesOf, ring-more}
 use Rattle.sync.proofs.room.write_bits.Statement.{statement}
 use Rattle.sync.proofs.room.write_bits.Tie as tie
-use Rattle.sync.proofs.room.write_bits.Reads as reads
-use Rattle.sync.proofs.room.write_bits.Lts as lts
-use Rattle.sync.proofs.markers.spelled.Reads as spelled-reads
 
 abbrev Inv-loop : tie.InvT-loop
 Inv-loop room₀ to bits from i₀ room i = (i ≤ 16) × (length room ≡ length room₀) × (room ≡ sets room₀ to (bytesOf i (ring bits from 128)))
@@ -29,30 +26,6 @@ abbrev μ-loop : tie.MeasureT-loop
 loop-holds : tie.Need-loop-holds Inv-loop μ-loop
 unfolding bytesOf
 loop-holds c = (search needs, refl, refl)
-
-mul-spelled : tie.Need-mul-spelled Inv-loop μ-loop
-mul-spelled c = search needs
-
-add-spelled : tie.Need-add-spelled Inv-loop μ-loop
-add-spelled c = search needs
-
-spelled-requires : tie.Need-spelled-requires Inv-loop μ-loop
-spelled-requires c κs = search needs
-
-cast-room : tie.Need-cast-room Inv-loop μ-loop
-cast-room c = search needs
-
-add-room : tie.Need-add-room Inv-loop μ-loop
-add-room c = search needs
-
-slice-write-room : tie.Need-slice-write-room Inv-loop μ-loop
-slice-write-room c = search needs
-
-add-i : tie.Need-add-i Inv-loop μ-loop
-add-i c = search needs
-
-loop-less : tie.Need-loop-less Inv-loop μ-loop
-loop-less c = search needs
 
 loop-again : tie.Need-loop-again Inv-loop μ-loop
 loop-again c =
@@ -84,14 +57,14 @@ write-bits-spec =
     Inv-loop
     μ-loop
     loop-holds
-    mul-spelled
-    add-spelled
-    spelled-requires
-    cast-room
-    add-room
-    slice-write-room
-    add-i
-    loop-less
+    (λ c. search needs)
+    (λ c. search needs)
+    (λ c κs. search needs)
+    (λ c. search needs)
+    (λ c. search needs)
+    (λ c. search needs)
+    (λ c. search needs)
+    (λ c. search needs)
     loop-again
     same-length
     returns)

@@ -16,8 +16,6 @@ use Rattle.sync.proofs.Rings.{spell-lt, ring-snoc, length-ring}
 use Rattle.sync.proofs.Rooms.{sets-more, bytesOf-ring, length-bytesOf, ring-more}
 use Rattle.sync.proofs.room.write_reliabilities.Statement.{statement}
 use Rattle.sync.proofs.room.write_reliabilities.Tie as tie
-use Rattle.sync.proofs.room.write_reliabilities.Reads as reads
-use Rattle.sync.proofs.room.write_reliabilities.Lts as lts
 
 abbrev Inv-loop : tie.InvT-loop
 Inv-loop room₀ to reliabilities from i₀ room i = (i ≤ 128) × (length room ≡ length room₀) × (room ≡ sets room₀ to (ring reliabilities from i))
@@ -28,24 +26,6 @@ abbrev μ-loop : tie.MeasureT-loop
 loop-holds : tie.Need-loop-holds Inv-loop μ-loop
 unfolding ring
 loop-holds c = (search needs, refl, refl)
-
-add-room : tie.Need-add-room Inv-loop μ-loop
-add-room c = search needs
-
-element-copy-out-room : tie.Need-element-copy-out-room Inv-loop μ-loop
-element-copy-out-room c = search needs
-
-add-room-2 : tie.Need-add-room-2 Inv-loop μ-loop
-add-room-2 c = search needs
-
-slice-write-room : tie.Need-slice-write-room Inv-loop μ-loop
-slice-write-room c = search needs
-
-add-i : tie.Need-add-i Inv-loop μ-loop
-add-i c = search needs
-
-loop-less : tie.Need-loop-less Inv-loop μ-loop
-loop-less c = search needs
 
 loop-again : tie.Need-loop-again Inv-loop μ-loop
 loop-again c =
@@ -75,12 +55,12 @@ write-reliabilities-spec =
     Inv-loop
     μ-loop
     loop-holds
-    add-room
-    element-copy-out-room
-    add-room-2
-    slice-write-room
-    add-i
-    loop-less
+    (λ c. search needs)
+    (λ c. search needs)
+    (λ c. search needs)
+    (λ c. search needs)
+    (λ c. search needs)
+    (λ c. search needs)
     loop-again
     same-length
     returns)

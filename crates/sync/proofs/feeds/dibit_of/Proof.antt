@@ -1,4 +1,4 @@
--- `sync::dibit_of` meets its contract.
+-- `sync::feeds::dibit_of` meets its contract.
 -- Assumes nothing.
 use mathlib.Core.Path.{_≡_, sym, ap}
 use mathlib.Core.List.{[], _∷_}
@@ -6,8 +6,8 @@ use Prim.Native.Nat.{ℕ}
 use native.Mathlib.Omega.{arith}
 use lib.ListN.{getD}
 use Rattle.sync.specs.Feeds.{unpacked}
-use Rattle.sync.proofs.dibit_of.Statement.{statement}
-use Rattle.sync.proofs.dibit_of.Tie as tie
+use Rattle.sync.proofs.feeds.dibit_of.Statement.{statement}
+use Rattle.sync.proofs.feeds.dibit_of.Tie as tie
 
 at : (b k j : ℕ) → k ≡ j → getD (unpacked (b ∷ [])) j 0 ≡ getD (unpacked (b ∷ [])) k 0
 at b k j e = ap (λ (i : ℕ). getD (unpacked (b ∷ [])) i 0) (sym e)
