@@ -3,35 +3,12 @@ ghost use mathlib.Core.Path.{_≡_};
 ghost use mathlib.Core.List.{_++_};
 ghost use Prim.Native.Nat.{_+_, _≤_};
 ghost use lib.ListN.{length, take, drop};
-ghost use Rattle.bits.specs.BigEndian.{bigEndian, valueOf};
+ghost use Rattle.bits.specs.BigEndian.{valueOf};
 ghost use Rattle.journal.specs.Reading.{allZero};
 use bits::wide;
 
-// x in eight bytes, high byte first.
-pub fn bytes_of(x: u64) -> [u8; 8]
-    ensures { λ r. ⌜ r ≡ bigEndian 8 x ⌝ }
-{
-    let x1 = x / 256;
-    let x2 = x1 / 256;
-    let x3 = x2 / 256;
-    let x4 = x3 / 256;
-    let x5 = x4 / 256;
-    let x6 = x5 / 256;
-    let x7 = x6 / 256;
-    [
-        (x7 % 256) as u8,
-        (x6 % 256) as u8,
-        (x5 % 256) as u8,
-        (x4 % 256) as u8,
-        (x3 % 256) as u8,
-        (x2 % 256) as u8,
-        (x1 % 256) as u8,
-        (x % 256) as u8,
-    ]
-}
-
 // The number of the eight bytes from `at` on, high byte first.
-pub fn number_at(s: &[u8], at: usize) -> u64
+pub(crate) fn number_at(s: &[u8], at: usize) -> u64
     requires { ⌜ at + 8 ≤ length (now s) ⌝ }
     ensures { λ r. ⌜ r ≡ valueOf (take 8 (drop at (now (s .entry)))) ⌝ }
 {
@@ -45,7 +22,7 @@ pub fn number_at(s: &[u8], at: usize) -> u64
 }
 
 // src into dst from `at` on.
-pub fn copy_at(dst: &mut [u8], at: usize, src: &[u8])
+pub(crate) fn copy_at(dst: &mut [u8], at: usize, src: &[u8])
     requires { ⌜ at + length (now src) ≤ length (now dst) ⌝ }
     ensures { λ _. ⌜ now (dst .exit) ≡ take at (now (dst .entry)) ++ now (src .entry) ++ drop (at + length (now (src .entry))) (now (dst .entry)) ⌝ }
 {
@@ -56,7 +33,7 @@ pub fn copy_at(dst: &mut [u8], at: usize, src: &[u8])
     }
 }
 
-pub fn all_zero(s: &[u8]) -> bool
+pub(crate) fn all_zero(s: &[u8]) -> bool
     ensures { λ r. ⌜ r ≡ allZero (now (s .entry)) ⌝ }
 {
     let mut i = 0;

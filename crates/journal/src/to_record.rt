@@ -7,10 +7,10 @@ use crate::Body;
 use crate::Entry;
 use crate::Figures;
 use crate::Outcome;
-use crate::numbers::bytes_of;
 use crate::numbers::copy_at;
 use bits::Refusal;
 use bits::Writing;
+use bits::bytes_of;
 
 // Where records end at the latest: 2^42.
 pub const LAST: u64 = 4398046511104;
@@ -32,7 +32,7 @@ fn bit_byte(b: bool) -> u8
 }
 
 // Whether n corrected bits go with the outcome.
-pub fn may_correct(o: Outcome, n: u8) -> bool
+pub(crate) fn may_correct(o: Outcome, n: u8) -> bool
     ensures { λ r. ⌜ r ≡ mayCorrect o n ⌝ }
 {
     match o {

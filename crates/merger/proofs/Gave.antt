@@ -31,9 +31,9 @@ use Rattle.merger.proofs.Homes.{key-take, stops, at-home, no-home, in-o
 use Rattle.merger.proofs.Sound.{join-sound, open-sound, rest-sound, give-sound, fair-choose}
 
 -- a record from one equation
-pub pushed-as : (step : PushStep) (r : AfterPush) → step ≡ pushStep (r .answer) (viewOf (r .merger)) → Sound (step .next) → r .merger .n ≤ 16 → length (r .merger .positions) ≡ 16 → PushGave step r
-pushed-as step r e s w l =
-    record { answers = sym (ap (λ (x : PushStep). x .answer) e); leaves = sym f; valid = record { within = w; long = l; sound = subst Sound f s } }
+pub pushed-as : (m : Merger) (step : PushStep) (r : AfterPush) → step ≡ pushStep (r .answer) (viewOf (r .merger)) → Sound (step .next) → r .merger .n ≤ 16 → length (r .merger .positions) ≡ 16 → r .answer ≡ Kept → PushGave m step r
+pushed-as m step r e s w l k =
+    record { answers = sym (ap (λ (x : PushStep). x .answer) e); leaves = sym f; valid = record { within = w; long = l; sound = subst Sound f s }; kept = λ h. absurd (h k) }
   where
     f : step .next ≡ viewOf (r .merger)
     f = ap (λ (x : PushStep). x .next) e
@@ -55,14 +55,14 @@ module _ (m : Merger) (g : Valid m) where
       subst Fair (getD-take (m .n) (m .positions) i noPosition h) (all-at Fair noPosition (take (m .n) (m .positions)) i (g .sound .fair) (omega arith))
 
   -- refused, or told apart: the state is as it was
-  pub same : (step : PushStep) (a : Pushed) → step ≡ pushStep a (viewOf m) → PushGave step (record { answer = a; merger = m })
-  same step a e = record { answers = sym (ap (λ (x : PushStep). x .answer) e); leaves = sym (ap (λ (x : PushStep). x .next) e); valid = g }
+  pub same : (step : PushStep) (a : Pushed) → step ≡ pushStep a (viewOf m) → PushGave m step (record { answer = a; merger = m })
+  same step a e = record { answers = sym (ap (λ (x : PushStep). x .answer) e); leaves = sym (ap (λ (x : PushStep). x .next) e); valid = g; kept = λ h. refl }
 
   pub same-release : (step : ReleaseStep) (a : Released) (f : Freed) → step ≡ releaseStep a f (viewOf m) → ReleaseGave step (record { answer = a; freed = f; merger = m })
   same-release step a f e = record { answers = sym (ap (λ (x : ReleaseStep). x .answer) e); frees = sym (ap (λ (x : ReleaseStep). x .freed) e); leaves = sym (ap (λ (x : ReleaseStep). x .next) e); valid = g }
 
   module _ (s : ℕ) (h : Held) where
-    pub join-double : (at : ℕ) (t : Bool) → at < m .n → t ≡ true → t ≡ taken s (getD (m .positions) at noPosition) → PushGave (joinOf s h (viewOf m) at) (record { answer = Double; merger = m })
+    pub join-double : (at : ℕ) (t : Bool) → at < m .n → t ≡ true → t ≡ taken s (getD (m .positions) at noPosition) → PushGave m (joinOf s h (viewOf m) at) (record { answer = Double; merger = m })
     join-double at t i x y =
         same _ Double (ap (λ (b : Bool). cond b (pushStep Double (viewOf m)) (pushStep Kept (view (set l at (filled s h (getD l at noPosition))) (m .last)))) (ap (λ (p : Position). taken s p) (getD-take (m .n) (m .positions) at noPosition i) ∙ sym y ∙ x))
       where
@@ -71,12 +71,13 @@ module _ (m : Merger) (g : Valid m) where
 
     pub join-kept : (at : ℕ) (t : Bool) (q : Position) → at < m .n → IsNear (h .figures .offset) (keyAt (m .positions) at) → h .figures .offset ≤ 2 ^ 42
         → t ≡ false → t ≡ taken s (getD (m .positions) at noPosition) → q ≡ filled s h (getD (m .positions) at noPosition)
-        → PushGave (joinOf s h (viewOf m) at) (record { answer = Kept; merger = record { n = m .n; positions = set (m .positions) at q; last = m .last } })
+        → PushGave m (joinOf s h (viewOf m) at) (record { answer = Kept; merger = record { n = m .n; positions = set (m .positions) at q; last = m .last } })
     join-kept at t q i n b x y z =
-        pushed-as _ _ whole
+        pushed-as m _ _ whole
         (join-sound s h (viewOf m) at (g .sound) (let e : length (take (m .n) (m .positions)) ≡ m .n = len in omega arith) (subst (λ (k : ℕ). IsNear (h .figures .offset) k) (sym (key-take (m .n) (m .positions) at i)) n) b)
         (g .within)
         (length-set (m .positions) at q ∙ g .long)
+        refl
       where
         l : List Position
         l = take (m .n) (m .positions)
@@ -90,17 +91,18 @@ module _ (m : Merger) (g : Valid m) where
             ∙ ap (λ (p : Position). pushStep Kept (view (set l at p) (m .last))) (ap (λ (p : Position). filled s h p) e ∙ sym z)
             ∙ ap (λ (k : List Position). pushStep Kept (view k (m .last))) (sym (take-set-lt (m .n) (m .positions) at q i))
 
-    pub open-full : (at : ℕ) → 16 ≤ m .n → PushGave (openOf s h (viewOf m) at) (record { answer = Refused Positions; merger = m })
+    pub open-full : (at : ℕ) → 16 ≤ m .n → PushGave m (openOf s h (viewOf m) at) (record { answer = Refused Positions; merger = m })
     open-full at w = same _ (Refused Positions) (let e : length (take (m .n) (m .positions)) ≡ m .n = len in let f : 16 ≤ length (take (m .n) (m .positions)) = omega arith in simp (le-leb _ _ f))
 
     pub open-kept : (at : ℕ) (p : Position) (r : List Position) → at ≡ belowOf (h .figures .offset) (take (m .n) (m .positions)) → Nowhere (h .figures .offset) (take (m .n) (m .positions)) → h .figures .offset ≤ 2 ^ 42
         → m .n < 16 → p ≡ alone s h → take (m .n + 1) r ≡ insertAt at p (take (m .n) (m .positions)) → length r ≡ 16
-        → PushGave (openOf s h (viewOf m) at) (record { answer = Kept; merger = record { n = m .n + 1; positions = r; last = m .last } })
+        → PushGave m (openOf s h (viewOf m) at) (record { answer = Kept; merger = record { n = m .n + 1; positions = r; last = m .last } })
     open-kept at p r a n b w y z k =
-        pushed-as _ _ whole
+        pushed-as m _ _ whole
         (subst (λ (i : ℕ). Sound (openOf s h (viewOf m) i .next)) (sym a) (open-sound s h (viewOf m) (g .sound) n b))
         (omega arith)
         k
+        refl
       where
         l : List Position
         l = take (m .n) (m .positions)
@@ -115,8 +117,8 @@ module _ (m : Merger) (g : Valid m) where
 
     -- the frame belongs to the position that the search found
     pub put-join : (at : ℕ) (r : AfterPush) → at ≡ belowOf (h .figures .offset) (take (m .n) (m .positions)) → at < m .n → keyAt (m .positions) at ≤ h .figures .offset + 191
-        → PushGave (joinOf s h (viewOf m) at) r → PushGave (putOf s h (viewOf m)) r
-    put-join at r a i k q = subst (λ (x : PushStep). PushGave x r) (sym whole) q
+        → PushGave m (joinOf s h (viewOf m) at) r → PushGave m (putOf s h (viewOf m)) r
+    put-join at r a i k q = subst (λ (x : PushStep). PushGave m x r) (sym whole) q
       where
         o : ℕ
         o = h .figures .offset
@@ -140,8 +142,8 @@ module _ (m : Merger) (g : Valid m) where
 
     -- the frame belongs to none
     pub put-open : (at : ℕ) (r : AfterPush) → at ≡ belowOf (h .figures .offset) (take (m .n) (m .positions)) → Nowhere (h .figures .offset) (take (m .n) (m .positions))
-        → PushGave (openOf s h (viewOf m) at) r → PushGave (putOf s h (viewOf m)) r
-    put-open at r a n q = subst (λ (x : PushStep). PushGave x r) (sym whole) q
+        → PushGave m (openOf s h (viewOf m) at) r → PushGave m (putOf s h (viewOf m)) r
+    put-open at r a n q = subst (λ (x : PushStep). PushGave m x r) (sym whole) q
       where
         o : ℕ
         o = h .figures .offset
@@ -253,7 +255,7 @@ module _ (m : Merger) (g : Valid m) where
 
 -- a push that is not refused
 pub push-on : (m : Merger) (s : ℕ) (h : Held) (r : AfterPush) (t : Bool) → s ≤ 1 → h .figures .offset ≤ 2 ^ 42 → t ≡ false → t ≡ isLate (m .last) (h .figures .offset)
-    → PushGave (putOf s h (viewOf m)) r → PushGave (pushOf s h (viewOf m)) r
+    → PushGave m (putOf s h (viewOf m)) r → PushGave m (pushOf s h (viewOf m)) r
 push-on m s h r t a b x y q = simp (le-ltb 1 s a, le-ltb (2 ^ 42) (h .figures .offset) b, sym y ∙ x) q
 
 pub push-late : (m : Merger) (s : ℕ) (h : Held) (t : Bool) → s ≤ 1 → h .figures .offset ≤ 2 ^ 42 → t ≡ true → t ≡ isLate (m .last) (h .figures .offset)

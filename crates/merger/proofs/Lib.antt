@@ -16,4 +16,3 @@ pub mod Grid
 pub mod Promises
 pub mod Streams
 pub mod Rooms
-pub mod Starred

@@ -8,7 +8,7 @@ use lib.Dec.{ltb, leb}
 use lib.ListN.{length, getD}
 use borrow.Author.Tests.{le-ltb, ltb-true}
 use Rattle.bits.specs.Alls.{All}
-use Rattle.bits.proofs.Alls.{all-at, all-set, all-so}
+use Rattle.bits.proofs.Alls.{all-at, all-set, all-map}
 use Rattle.bits.proofs.Conds.{cond-cases}
 use Rattle.merger.specs.declared.Clock.{Clock}
 use Rattle.merger.specs.declared.Clock.the-variants.{Absent, At}
@@ -50,7 +50,7 @@ raise-place f f′ Empty h b = tt
 raise-place f f′ (Holds k) h b = let b′ : k .figures .offset < f = b in omega arith
 
 raise-all : (f₀ f₁ e₀ e₁ : ℕ) (l : List Position) → f₀ ≤ e₀ → f₁ ≤ e₁ → All (Low f₀ f₁) l → All (Low e₀ e₁) l
-raise-all f₀ f₁ e₀ e₁ l a b h = all-so (Low f₀ f₁) (Low e₀ e₁) (λ p k. (raise-place f₀ e₀ (p .primary) a (k .0), raise-place f₁ e₁ (p .alternate) b (k .1))) l h
+raise-all f₀ f₁ e₀ e₁ l a b h = all-map {Q = Low f₀ f₁} {R = Low e₀ e₁} (λ p k. (raise-place f₀ e₀ (p .primary) a (k .0), raise-place f₁ e₁ (p .alternate) b (k .1))) l h
 
 raise-last : (f₀ f₁ e₀ e₁ : ℕ) (l : Clock) → f₀ ≤ e₀ → f₁ ≤ e₁ → LastBelow f₀ f₁ l → LastBelow e₀ e₁ l
 raise-last f₀ f₁ e₀ e₁ Absent a b h = tt

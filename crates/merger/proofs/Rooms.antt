@@ -9,7 +9,7 @@ use lib.ListN.{length, getD, length-set}
 use borrow.Author.Tests.{ltb-true, ltb-false, leb-true}
 use Rattle.bits.specs.Alls.{All}
 use Rattle.bits.specs.declared.Refusal.the-variants.{Positions}
-use Rattle.bits.proofs.Alls.{all-at, all-set, all-so}
+use Rattle.bits.proofs.Alls.{all-at, all-set, all-map}
 use Rattle.bits.proofs.Conds.{cond-cases}
 use Rattle.merger.specs.declared.Clock.{Clock}
 use Rattle.merger.specs.declared.Clock.the-variants.{At}
@@ -60,10 +60,10 @@ few-wait d a b [] s n w = omega arith
 few-wait d a b (p ∷ ps) s n w = by (passed (At a) (p .key) (p .primary)) refl (passed (At b) (p .key) (p .alternate)) refl w
   where
     under : p .key + 192 * length ps ≤ a + d
-    under = counted (a + d) p ps s (all-so (NearAt d a b) (λ q. q .key ≤ a + d) (λ q k. k .0) (p ∷ ps) n)
+    under = counted (a + d) p ps s (all-map {Q = NearAt d a b} {R = λ q. q .key ≤ a + d} (λ q k. k .0) (p ∷ ps) n)
 
     other : p .key + 192 * length ps ≤ b + d
-    other = counted (b + d) p ps s (all-so (NearAt d a b) (λ q. q .key ≤ b + d) (λ q k. k .1) (p ∷ ps) n)
+    other = counted (b + d) p ps s (all-map {Q = NearAt d a b} {R = λ q. q .key ≤ b + d} (λ q k. k .1) (p ∷ ps) n)
 
     by : (x : Bool) → passed (At a) (p .key) (p .primary) ≡ x → (y : Bool) → passed (At b) (p .key) (p .alternate) ≡ y → (x && y) ≡ false → 192 * suc (length ps) ≤ d + 383
     by true e true f g = let z : _≡_ {A = ℕ} 0 1 = cc in absurd (omega arith)
@@ -159,7 +159,7 @@ module _ (d : ℕ) where
       let up : a ≤ r .primary = p .1 in
       let up′ : b ≤ r .alternate = p .2 in
       let l′ : All (NearAt d (r .primary) (r .alternate)) (v .pending) =
-      all-so (NearAt d a b) (NearAt d (r .primary) (r .alternate)) (λ q k. let x : q .key ≤ a + d = k .0 in let y : q .key ≤ b + d = k .1 in (omega arith, omega arith)) (v .pending) l in
+      all-map {Q = NearAt d a b} {R = NearAt d (r .primary) (r .alternate)} (λ q k. let x : q .key ≤ a + d = k .0 in let y : q .key ≤ b + d = k .1 in (omega arith, omega arith)) (v .pending) l in
       let y : Pushes (r .primary) (r .alternate) (r .frames) v = pushes (r .primary) (r .alternate) (r .frames) v g (omega arith) l′ (p .3) in
       let s : Sound (afterRound r v) = times-sound (r .primary) (r .alternate) 16 (pushAll (r .frames) v) (y .sound) in
       let q : All (NearAt d (r .primary) (r .alternate)) (afterRound r v .pending) = times-all (r .primary) (r .alternate) (NearAt d (r .primary) (r .alternate)) 16 (pushAll (r .frames) v) (y .near) in

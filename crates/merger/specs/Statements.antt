@@ -109,15 +109,3 @@ pub record OneStream : Type 0 where
 pub record NeverFull : Type 0 where
   pub room : (d j : ℕ) (rounds : List Round) → d + 192 * j ≤ 2880 → Paced d j 0 0 rounds → RoomIn rounds started
   pub seventeen : RoomIn (oneSided 17 0) started → ⊥
-
--- document 01's starred examples of the merger
-pub data Example : Type 0 where
-  late : ℕ → ℕ → Bool → Example
-  snaps : ℕ → ℕ → Example
-
-abbrev pub Agrees : Example → Type 0
-Agrees (late last o b) = isLate (At last) o ≡ b
-Agrees (snaps d e) = (l : ℕ) → snapped (At l) (l + d) ≡ l + e
-
-abbrev pub starred : List Example
-starred = late 1000 1192 true ∷ late 1000 1193 false ∷ snaps 191 384 ∷ snaps 575 384 ∷ snaps 576 768 ∷ snaps 6143 6144 ∷ snaps 6144 6144 ∷ []

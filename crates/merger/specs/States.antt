@@ -14,6 +14,7 @@ use Rattle.merger.specs.declared.Position.{Position}
 use Rattle.merger.specs.declared.Merger.{Merger}
 use Rattle.merger.specs.declared.Choice.{Choice}
 use Rattle.merger.specs.declared.Choice.the-variants.{Neither, Chosen}
+use Rattle.merger.specs.declared.Pushed.the-variants.{Kept}
 use Rattle.merger.specs.declared.AfterPush.{AfterPush}
 use Rattle.merger.specs.declared.AfterRelease.{AfterRelease}
 use Rattle.merger.specs.Merging.{View, viewOf, isHeld, noPosition, PushStep, ReleaseStep}
@@ -78,10 +79,13 @@ pub record Valid (m : Merger) : Type 0 where
 
 -- ── contracts ──
 
-pub record PushGave (step : PushStep) (r : AfterPush) : Type 0 where
+-- a push on the merger m
+pub record PushGave (m : Merger) (step : PushStep) (r : AfterPush) : Type 0 where
   pub answers : r .answer ≡ step .answer
   pub leaves : viewOf (r .merger) ≡ step .next
   pub valid : Valid (r .merger)
+  -- refused, late or double: the merger itself comes back
+  pub kept : (r .answer ≡ Kept → ⊥) → r .merger ≡ m
 
 pub record ReleaseGave (step : ReleaseStep) (r : AfterRelease) : Type 0 where
   pub answers : r .answer ≡ step .answer

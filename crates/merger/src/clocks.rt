@@ -6,7 +6,7 @@ ghost use Rattle.merger.specs.States.{Marked};
 use crate::Clock;
 
 // Whether a frame comes too late after what was released last.
-pub fn late(last: Clock, offset: u64) -> bool
+pub(crate) fn late(last: Clock, offset: u64) -> bool
     requires { ⌜ Marked last ⌝ ∗ ⌜ offset ≤ 2 ^ 42 ⌝ }
     ensures { λ r. ⌜ r ≡ isLate last offset ⌝ }
 {
@@ -17,7 +17,7 @@ pub fn late(last: Clock, offset: u64) -> bool
 }
 
 // The offset on the grid of what was released last.
-pub fn snap(last: Clock, offset: u64) -> u64
+pub(crate) fn snap(last: Clock, offset: u64) -> u64
     requires { ⌜ Marked last ⌝ ∗ ⌜ offset ≤ 2 ^ 42 ⌝ }
     ensures { λ r. ⌜ r ≡ snapped last offset ⌝ }
 {
@@ -40,7 +40,7 @@ pub fn snap(last: Clock, offset: u64) -> u64
 }
 
 // Whether an offset lies after what was released last.
-pub fn after(last: Clock, offset: u64) -> bool
+pub(crate) fn after(last: Clock, offset: u64) -> bool
     ensures { λ r. ⌜ r ≡ isAfter last offset ⌝ }
 {
     match last {

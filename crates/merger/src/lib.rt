@@ -129,7 +129,7 @@ impl Merger {
     // A frame of stream 0 (primary) or 1 (alternate), the number that the caller chose for it and the yes or no of the caller's check.
     pub fn push(self, stream: usize, figures: Head, number: u64, check: bool) -> AfterPush
         requires { ⌜ Valid self ⌝ }
-        ensures { λ r. ⌜ PushGave (pushOf stream (heldOf figures number check) (viewOf self)) r ⌝ }
+        ensures { λ r. ⌜ PushGave self (pushOf stream (heldOf figures number check) (viewOf self)) r ⌝ }
     {
         let offset = figures.offset;
         let last = self.last;

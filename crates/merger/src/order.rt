@@ -7,7 +7,7 @@ ghost use Rattle.merger.specs.States.{belowOf};
 use crate::Position;
 
 // How many positions, from the first, lie more than 191 below the offset.
-pub fn below(positions: [Position; 16], n: usize, offset: u64) -> usize
+pub(crate) fn below(positions: [Position; 16], n: usize, offset: u64) -> usize
     requires { ⌜ n ≤ 16 ⌝ ∗ ⌜ ((i : ℕ) → i < n → getD positions i noPosition .key ≤ 2 ^ 42) ⌝ }
     ensures { λ r. ⌜ (r ≡ belowOf offset (take n positions)) × (r ≤ n) ⌝ }
 {
@@ -23,7 +23,12 @@ pub fn below(positions: [Position; 16], n: usize, offset: u64) -> usize
 }
 
 // The positions with one more at a place.
-pub fn with_position(positions: [Position; 16], n: usize, at: usize, p: Position) -> [Position; 16]
+pub(crate) fn with_position(
+    positions: [Position; 16],
+    n: usize,
+    at: usize,
+    p: Position,
+) -> [Position; 16]
     requires { ⌜ (at ≤ n) × (n < 16) ⌝ }
     ensures { λ r. ⌜ take (n + 1) r ≡ insertAt at p (take n positions) ⌝ }
 {
@@ -38,7 +43,7 @@ pub fn with_position(positions: [Position; 16], n: usize, at: usize, p: Position
 }
 
 // The positions without the first.
-pub fn without_first(positions: [Position; 16], n: usize) -> [Position; 16]
+pub(crate) fn without_first(positions: [Position; 16], n: usize) -> [Position; 16]
     requires { ⌜ (0 < n) × (n ≤ 16) ⌝ }
     ensures { λ r. ⌜ take (n - 1) r ≡ drop 1 (take n positions) ⌝ }
 {

@@ -11,7 +11,7 @@ use crate::Place;
 use crate::Position;
 
 // Whether the stream's place holds a frame.
-pub fn is_taken(p: Position, stream: usize) -> bool
+pub(crate) fn is_taken(p: Position, stream: usize) -> bool
     ensures { λ r. ⌜ r ≡ taken stream p ⌝ }
 {
     let primary = p.primary;
@@ -30,7 +30,7 @@ pub fn is_taken(p: Position, stream: usize) -> bool
 }
 
 // The position with a frame in the stream's place.
-pub fn with_frame(p: Position, stream: usize, h: Held) -> Position
+pub(crate) fn with_frame(p: Position, stream: usize, h: Held) -> Position
     ensures { λ r. ⌜ r ≡ filled stream h p ⌝ }
 {
     let primary = p.primary;
@@ -52,7 +52,7 @@ pub fn with_frame(p: Position, stream: usize, h: Held) -> Position
 }
 
 // A new position, whose key is the frame's offset.
-pub fn opened(stream: usize, h: Held) -> Position
+pub(crate) fn opened(stream: usize, h: Held) -> Position
     ensures { λ r. ⌜ r ≡ alone stream h ⌝ }
 {
     let key = h.figures.offset;
@@ -68,7 +68,7 @@ pub fn opened(stream: usize, h: Held) -> Position
 }
 
 // Whether a stream has delivered a position or moved past it.
-pub fn is_passed(place: Place, settled: Clock, key: u64) -> bool
+pub(crate) fn is_passed(place: Place, settled: Clock, key: u64) -> bool
     requires { ⌜ key ≤ 2 ^ 42 ⌝ }
     ensures { λ r. ⌜ r ≡ passed settled key place ⌝ }
 {
@@ -82,7 +82,7 @@ pub fn is_passed(place: Place, settled: Clock, key: u64) -> bool
 }
 
 // Whether both streams have, or it is a flush.
-pub fn ready(p: Position, primary: Clock, alternate: Clock, flush: bool) -> bool
+pub(crate) fn ready(p: Position, primary: Clock, alternate: Clock, flush: bool) -> bool
     requires { ⌜ p .key ≤ 2 ^ 42 ⌝ }
     ensures { λ r. ⌜ r ≡ isReady primary alternate flush p ⌝ }
 {
@@ -99,7 +99,7 @@ pub fn ready(p: Position, primary: Clock, alternate: Clock, flush: bool) -> bool
 }
 
 // The primary's frame, unless only the alternate's passes the check.
-pub fn choose(p: Position) -> Choice
+pub(crate) fn choose(p: Position) -> Choice
     ensures { λ r. ⌜ r ≡ choiceOf p ⌝ }
 {
     let primary = p.primary;
@@ -125,7 +125,7 @@ pub fn choose(p: Position) -> Choice
 }
 
 // The number that a place gives back.
-pub fn free(place: Place) -> Free
+pub(crate) fn free(place: Place) -> Free
     ensures { λ r. ⌜ r ≡ freeOf place ⌝ }
 {
     match place {
@@ -135,7 +135,7 @@ pub fn free(place: Place) -> Free
 }
 
 // The numbers that a position gives back when it is taken out.
-pub fn freed(p: Position) -> Freed
+pub(crate) fn freed(p: Position) -> Freed
     ensures { λ r. ⌜ r ≡ freedOf p ⌝ }
 {
     let primary = p.primary;

@@ -16,9 +16,9 @@ use crate::positions::with_frame;
 use bits::Refusal;
 
 // The frame belongs to the position at a place.
-pub fn join(m: Merger, at: usize, stream: usize, h: Held) -> AfterPush
+pub(crate) fn join(m: Merger, at: usize, stream: usize, h: Held) -> AfterPush
     requires { ⌜ Valid m ⌝ ∗ ⌜ at < m .n ⌝ ∗ ⌜ IsNear (h .figures .offset) (getD (m .positions) at noPosition .key) ⌝ ∗ ⌜ h .figures .offset ≤ 2 ^ 42 ⌝ }
-    ensures { λ r. ⌜ PushGave (joinOf stream h (viewOf m) at) r ⌝ }
+    ensures { λ r. ⌜ PushGave m (joinOf stream h (viewOf m) at) r ⌝ }
 {
     let positions = m.positions;
     let last = m.last;
@@ -44,9 +44,9 @@ pub fn join(m: Merger, at: usize, stream: usize, h: Held) -> AfterPush
 }
 
 // The frame belongs to none: a new position at its place in the order.
-pub fn open(m: Merger, at: usize, stream: usize, h: Held) -> AfterPush
+pub(crate) fn open(m: Merger, at: usize, stream: usize, h: Held) -> AfterPush
     requires { ⌜ Valid m ⌝ ∗ ⌜ at ≡ belowOf (h .figures .offset) (take (m .n) (m .positions)) ⌝ ∗ ⌜ Nowhere (h .figures .offset) (take (m .n) (m .positions)) ⌝ ∗ ⌜ at ≤ m .n ⌝ ∗ ⌜ h .figures .offset ≤ 2 ^ 42 ⌝ }
-    ensures { λ r. ⌜ PushGave (openOf stream h (viewOf m) at) r ⌝ }
+    ensures { λ r. ⌜ PushGave m (openOf stream h (viewOf m) at) r ⌝ }
 {
     let n = m.n;
     if 16 <= n {
@@ -71,9 +71,9 @@ pub fn open(m: Merger, at: usize, stream: usize, h: Held) -> AfterPush
 }
 
 // One search serves for both: the first position that does not lie below the frame is its own, or the one that a new position goes before.
-pub fn put(m: Merger, stream: usize, h: Held) -> AfterPush
+pub(crate) fn put(m: Merger, stream: usize, h: Held) -> AfterPush
     requires { ⌜ Valid m ⌝ ∗ ⌜ h .figures .offset ≤ 2 ^ 42 ⌝ }
-    ensures { λ r. ⌜ PushGave (putOf stream h (viewOf m)) r ⌝ }
+    ensures { λ r. ⌜ PushGave m (putOf stream h (viewOf m)) r ⌝ }
 {
     let n = m.n;
     let positions = m.positions;

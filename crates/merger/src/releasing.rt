@@ -17,7 +17,7 @@ use crate::order::without_first;
 use sync_rules::Head;
 
 // The merger without its first position.
-pub fn first_out(m: Merger) -> Merger
+pub(crate) fn first_out(m: Merger) -> Merger
     requires { ⌜ Valid m ⌝ ∗ ⌜ 0 < m .n ⌝ }
     ensures { λ r. ⌜ (viewOf r ≡ view (drop 1 (take (m .n) (m .positions))) (m .last)) × Valid r ⌝ }
 {
@@ -34,7 +34,7 @@ pub fn first_out(m: Merger) -> Merger
 }
 
 // What becomes of the chosen frame of a position that was taken out of the merger.
-pub fn give(m: Merger, c: Choice, freed: Freed) -> AfterRelease
+pub(crate) fn give(m: Merger, c: Choice, freed: Freed) -> AfterRelease
     requires { ⌜ Valid m ⌝ ∗ ⌜ FairChoice c ⌝ }
     ensures { λ r. ⌜ ReleaseGave (settle c freed (take (m .n) (m .positions)) (m .last)) r ⌝ }
 {

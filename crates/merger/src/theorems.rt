@@ -1,10 +1,9 @@
 // What is proved of the definitions: each theorem is the `ensures` of an empty function, so that it cannot vanish. Nothing runs here.
 ghost use mathlib.Core.List.{List};
 ghost use Prim.Native.Nat.{ℕ};
-ghost use Rattle.bits.specs.Alls.{All};
 ghost use Rattle.merger.specs.Scripts.{Call};
 ghost use Rattle.merger.specs.Grids.{OnGrid};
-ghost use Rattle.merger.specs.Statements.{Reached, Rises, Moves, OnlyReady, Fates, Numbers, FromKept, AsTheSource, OneGrid, NothingLost, Slips, OneStream, NeverFull, Agrees, starred};
+ghost use Rattle.merger.specs.Statements.{Reached, Rises, Moves, OnlyReady, Fates, Numbers, FromKept, AsTheSource, OneGrid, NothingLost, Slips, OneStream, NeverFull};
 
 // Every state that a start and further calls have reached is sound.
 pub fn reached()
@@ -69,9 +68,4 @@ pub fn one_stream()
 // Refusal 9 does not come to a caller that releases all that is ready.
 pub fn never_full()
     ensures { λ _. ⌜ NeverFull ⌝ }
-{}
-
-// Document 01's starred examples of the merger.
-pub fn starred_hold()
-    ensures { λ _. ⌜ All Agrees starred ⌝ }
 {}

@@ -10,17 +10,11 @@ returns c = let s = c .before in same (s .args .self) (s .pre) _ _ (push-stream 
 returns-2 : tie.Need-returns-2
 returns-2 c = let s = c .before .before in same (s .args .self) (s .pre) _ _ (push-offset (s .args .self) _ _ (c .before .if1 .left) (c .if2 .taken))
 
-late-requires : tie.Need-late-requires
-late-requires c κs = search needs
-
 returns-3 : tie.Need-returns-3
 returns-3 c = let s = c .before .before .before .before in same (s .args .self) (s .pre) _ _ (push-late (s .args .self) _ _ _ (c .before .before .before .if1 .left) (c .before .before .if2 .left) (c .if3 .taken) (c .before .late .ensures))
-
-put-requires : tie.Need-put-requires
-put-requires c κs = search needs
 
 returns-4 : tie.Need-returns-4
 returns-4 c = let s = c .before .before .before .before .before in push-on (s .args .self) _ _ _ _ (c .before .before .before .before .if1 .left) (c .before .before .before .if2 .left) (c .before .if3 .left) (c .before .before .late .ensures) (c .put .ensures)
 
 pub push-spec : {M : Type 1} → statement M
-push-spec = tie.close (tie.spec returns returns-2 late-requires returns-3 put-requires returns-4)
+push-spec = tie.close (tie.spec returns returns-2 (λ c κs. search needs) returns-3 (λ c κs. search needs) returns-4)

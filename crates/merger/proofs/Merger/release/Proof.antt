@@ -8,20 +8,8 @@ use Rattle.merger.proofs.Merger.release.Tie as tie
 returns : tie.Need-returns
 returns c = let s = c .before in release-empty (s .args .self) (s .pre) _ _ _ (c .if1 .taken)
 
-array-copy-out-p : tie.Need-array-copy-out-p
-array-copy-out-p c = search needs
-
 ready-requires : tie.Need-ready-requires
 ready-requires c κs = let s = c .before .before .before in fair-of (s .args .self) (s .pre) 0 (omega arith) .key
-
-first-out-requires : tie.Need-first-out-requires
-first-out-requires c κs = search needs
-
-choose-requires : tie.Need-choose-requires
-choose-requires c κs = search needs
-
-freed-requires : tie.Need-freed-requires
-freed-requires c κs = search needs
 
 give-requires : tie.Need-give-requires
 give-requires c κs = let s = c .before .before .before .before .before .before .before .before in (c .before .before .first-out .ensures .1, fair-first (s .args .self) (s .pre) (s .args .primary) (s .args .alternate) (s .args .flush) _ (omega arith) (c .before .choose .ensures))
@@ -37,11 +25,11 @@ release-spec =
     tie.close
     (tie.spec
     returns
-    array-copy-out-p
+    (λ c. search needs)
     ready-requires
-    first-out-requires
-    choose-requires
-    freed-requires
+    (λ c κs. search needs)
+    (λ c κs. search needs)
+    (λ c κs. search needs)
     give-requires
     returns-2
     returns-3)

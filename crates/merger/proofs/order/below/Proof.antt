@@ -18,12 +18,6 @@ abbrev μ-loop : tie.MeasureT-loop
 loop-holds : tie.Need-loop-holds Inv-loop μ-loop
 loop-holds c = (search needs, below-none _)
 
-mul-key : tie.Need-mul-key Inv-loop μ-loop
-mul-key c = search needs
-
-element-copy-out-key : tie.Need-element-copy-out-key Inv-loop μ-loop
-element-copy-out-key c = search needs
-
 add-if1 : tie.Need-add-if1 Inv-loop μ-loop
 add-if1 c = omega (arith, c .before .before .pre .1 (c .before .loop .i) (c .loop-test .taken))
 
@@ -33,12 +27,6 @@ returns c =
     let len : length (start .args .t1) ≡ 16 = start .good .0 .1 .0 .1 in
     let stops : start .args .offset ≤ keyAt (start .args .t1) (c .before .before .loop .i) + 191 = omega (arith, c .if1 .taken) in
     (below-found (start .args .offset) (start .args .t1) (start .args .n) (omega arith) (c .before .before .loop .i) (c .before .loop-test .taken) (c .before .before .loop .inv .1) stops, search needs)
-
-add-i : tie.Need-add-i Inv-loop μ-loop
-add-i c = search needs
-
-loop-less : tie.Need-loop-less Inv-loop μ-loop
-loop-less c = search needs
 
 loop-again : tie.Need-loop-again Inv-loop μ-loop
 loop-again c =
@@ -59,11 +47,11 @@ below-spec =
     Inv-loop
     μ-loop
     loop-holds
-    mul-key
-    element-copy-out-key
+    (λ c. search needs)
+    (λ c. search needs)
     add-if1
     returns
-    add-i
-    loop-less
+    (λ c. search needs)
+    (λ c. search needs)
     loop-again
     returns-2)

@@ -16,35 +16,8 @@ Inv-loop n at positions out₀ j₀ out j = (at ≤ j) × (j ≤ n) × (out ≡ 
 abbrev μ-loop : tie.MeasureT-loop
 μ-loop n at positions out₀ j₀ out j = n - j
 
-mul-out : tie.Need-mul-out Inv-loop μ-loop
-mul-out c = search needs
-
-array-set-from-out : tie.Need-array-set-from-out Inv-loop μ-loop
-array-set-from-out c = search needs
-
 loop-holds : tie.Need-loop-holds Inv-loop μ-loop
 loop-holds c = (search needs, search needs, shift-none (set (c .args .t1) (c .args .at) (c .args .p)) (c .args .t1) (c .args .at))
-
-mul-out-2 : tie.Need-mul-out-2 Inv-loop μ-loop
-mul-out-2 c = search needs
-
-array-copy-out-out : tie.Need-array-copy-out-out Inv-loop μ-loop
-array-copy-out-out c = search needs
-
-add-out : tie.Need-add-out Inv-loop μ-loop
-add-out c = search needs
-
-mul-out-3 : tie.Need-mul-out-3 Inv-loop μ-loop
-mul-out-3 c = search needs
-
-array-set-from-out-2 : tie.Need-array-set-from-out-2 Inv-loop μ-loop
-array-set-from-out-2 c = search needs
-
-add-j : tie.Need-add-j Inv-loop μ-loop
-add-j c = search needs
-
-loop-less : tie.Need-loop-less Inv-loop μ-loop
-loop-less c = search needs
 
 loop-again : tie.Need-loop-again Inv-loop μ-loop
 loop-again c =
@@ -71,15 +44,15 @@ with-position-spec =
     (tie.spec
     Inv-loop
     μ-loop
-    mul-out
-    array-set-from-out
+    (λ c. search needs)
+    (λ c. search needs)
     loop-holds
-    mul-out-2
-    array-copy-out-out
-    add-out
-    mul-out-3
-    array-set-from-out-2
-    add-j
-    loop-less
+    (λ c. search needs)
+    (λ c. search needs)
+    (λ c. search needs)
+    (λ c. search needs)
+    (λ c. search needs)
+    (λ c. search needs)
+    (λ c. search needs)
     loop-again
     returns)

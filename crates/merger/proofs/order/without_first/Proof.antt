@@ -18,27 +18,6 @@ abbrev μ-loop : tie.MeasureT-loop
 loop-holds : tie.Need-loop-holds Inv-loop μ-loop
 loop-holds c = (search needs, search needs, lower-none (c .args .t1))
 
-mul-out : tie.Need-mul-out Inv-loop μ-loop
-mul-out c = search needs
-
-array-copy-out-out : tie.Need-array-copy-out-out Inv-loop μ-loop
-array-copy-out-out c = search needs
-
-sub-out : tie.Need-sub-out Inv-loop μ-loop
-sub-out c = search needs
-
-mul-out-2 : tie.Need-mul-out-2 Inv-loop μ-loop
-mul-out-2 c = search needs
-
-array-set-from-out : tie.Need-array-set-from-out Inv-loop μ-loop
-array-set-from-out c = omega arith
-
-add-j : tie.Need-add-j Inv-loop μ-loop
-add-j c = search needs
-
-loop-less : tie.Need-loop-less Inv-loop μ-loop
-loop-less c = search needs
-
 loop-again : tie.Need-loop-again Inv-loop μ-loop
 loop-again c = let at-loop = c .before .before in let start = at-loop .before in let l : List Position = start .args .t1 in let len : length l ≡ 16 = start .good .0 .1 .0 .1 in (search needs, search needs, ap (λ (z : List Position). set z (at-loop .loop .j - 1) (getD l (at-loop .loop .j) _)) (at-loop .loop .inv .2) ∙ lower-more l _ (at-loop .loop .j) (at-loop .loop .inv .0) (omega arith))
 
@@ -52,12 +31,12 @@ without-first-spec =
     Inv-loop
     μ-loop
     loop-holds
-    mul-out
-    array-copy-out-out
-    sub-out
-    mul-out-2
-    array-set-from-out
-    add-j
-    loop-less
+    (λ c. search needs)
+    (λ c. search needs)
+    (λ c. search needs)
+    (λ c. search needs)
+    (λ c. omega arith)
+    (λ c. search needs)
+    (λ c. search needs)
     loop-again
     returns)

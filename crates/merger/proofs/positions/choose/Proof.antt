@@ -4,29 +4,11 @@ use borrow.Author.Needs.{needs}
 use Rattle.merger.proofs.positions.choose.Statement.{statement}
 use Rattle.merger.proofs.positions.choose.Tie as tie
 
-enum-known-primary : tie.Need-enum-known-primary
-enum-known-primary c = search needs
-
-enum-known-alternate : tie.Need-enum-known-alternate
-enum-known-alternate c = search needs
-
 returns : tie.Need-returns
 returns c = chosen-by _ (c .before .before .before .before .before .before .before .args .p) _ _ (c .before .before .before .before .before .primary .given .1) (c .before .before .alternate .given .1) (simp (c .if1 .taken))
 
 returns-2 : tie.Need-returns-2
 returns-2 c = chosen-by _ (c .before .before .before .before .before .before .before .before .args .p) _ _ (c .before .before .before .before .before .before .primary .given .1) (c .before .before .before .alternate .given .1) (simp (c .before .if1 .left, c .if2 .taken))
-
-enum-told : tie.Need-enum-told
-enum-told c = search needs
-
-enum-told-2 : tie.Need-enum-told-2
-enum-told-2 c = search needs
-
-enum-known-alternate-2 : tie.Need-enum-known-alternate-2
-enum-known-alternate-2 c = search needs
-
-enum-told-3 : tie.Need-enum-told-3
-enum-told-3 c = search needs
 
 returns-3 : tie.Need-returns-3
 returns-3 c = chosen-by _ (c .before .before .before .before .before .before .before .before .args .p) _ _ (c .before .before .before .before .before .before .primary .given .1) (c .before .before .before .alternate .given .1) (simp (c .before .if1 .left, c .if2 .left))
@@ -37,22 +19,19 @@ returns-4 c = chosen-by _ (c .before .before .before .before .before .args .p) _
 returns-5 : tie.Need-returns-5
 returns-5 c = chosen-by _ (c .before .before .before .before .before .args .p) _ _ (c .before .before .before .enum-told2 .given .1) (c .before .alternate2 .given .1) refl
 
-returns-6 : tie.Need-returns-6
-returns-6 c = search needs
-
 pub choose-spec : {M : Type 1} → statement M
 choose-spec =
     tie.close
     (tie.spec
-    enum-known-primary
-    enum-known-alternate
+    (λ c. search needs)
+    (λ c. search needs)
     returns
     returns-2
-    enum-told
-    enum-told-2
-    enum-known-alternate-2
-    enum-told-3
+    (λ c. search needs)
+    (λ c. search needs)
+    (λ c. search needs)
+    (λ c. search needs)
     returns-3
     returns-4
     returns-5
-    returns-6)
+    (λ c. search needs))

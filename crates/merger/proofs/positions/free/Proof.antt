@@ -2,17 +2,8 @@ use borrow.Author.Needs.{needs}
 use Rattle.merger.proofs.positions.free.Statement.{statement}
 use Rattle.merger.proofs.positions.free.Tie as tie
 
-enum-told : tie.Need-enum-told
-enum-told c = search needs
-
-enum-known-place : tie.Need-enum-known-place
-enum-known-place c = search needs
-
-returns : tie.Need-returns
-returns c = search needs
-
 returns-2 : tie.Need-returns-2
 returns-2 c = rw (c .before .place .given .1)
 
 pub free-spec : {M : Type 1} → statement M
-free-spec = tie.close (tie.spec enum-told enum-known-place returns returns-2)
+free-spec = tie.close (tie.spec (λ c. search needs) (λ c. search needs) (λ c. search needs) returns-2)

@@ -3,15 +3,6 @@ use borrow.Author.Needs.{needs}
 use Rattle.merger.proofs.positions.ready.Statement.{statement}
 use Rattle.merger.proofs.positions.ready.Tie as tie
 
-returns : tie.Need-returns
-returns c = search needs
-
-is-passed-requires : tie.Need-is-passed-requires
-is-passed-requires c κs = search needs
-
-is-passed-requires-2 : tie.Need-is-passed-requires-2
-is-passed-requires-2 c κs = search needs
-
 returns-2 : tie.Need-returns-2
 returns-2 c = both-passed _ _ _ _ _ (c .before .before .before .if1 .left) (c .before .if2 .taken) (c .before .before .is-passed .ensures) (c .is-passed2 .ensures)
 
@@ -20,4 +11,4 @@ returns-3 c = first-not _ _ _ _ (c .before .before .if1 .left) (c .if2 .left) (c
 
 pub ready-spec : {M : Type 1} → statement M
 ready-spec =
-    tie.close (tie.spec returns is-passed-requires is-passed-requires-2 returns-2 returns-3)
+    tie.close (tie.spec (λ c. search needs) (λ c κs. search needs) (λ c κs. search needs) returns-2 returns-3)

@@ -15,15 +15,6 @@ open-requires c κs = let s = c .before .before .before in let b = c .before .be
 returns : tie.Need-returns
 returns c = let s = c .before .before .before .before in let b = c .before .before .below .ensures in put-open (s .args .m) (s .pre .0) (s .args .stream) (s .args .h) _ _ (b .0) (nowhere-end (s .args .m) (s .pre .0) _ _ (b .0) (c .before .if1 .taken)) (c .«open» .ensures)
 
-mul-key : tie.Need-mul-key
-mul-key c = search needs
-
-element-copy-out-key : tie.Need-element-copy-out-key
-element-copy-out-key c = search needs
-
-add-if2 : tie.Need-add-if2
-add-if2 c = search needs
-
 open-requires-2 : tie.Need-open-requires-2
 open-requires-2 c κs = let s = c .before .before .before .before in let b = c .before .before .below .ensures in (s .pre .0, (b .0, (nowhere-above (s .args .m) (s .pre .0) _ _ (b .0) (c .before .if1 .left) (c .if2 .taken), (b .1, s .pre .1))))
 
@@ -43,9 +34,9 @@ put-spec =
     below-requires
     open-requires
     returns
-    mul-key
-    element-copy-out-key
-    add-if2
+    (λ c. search needs)
+    (λ c. search needs)
+    (λ c. search needs)
     open-requires-2
     returns-2
     join-requires

@@ -5,20 +5,11 @@ use borrow.Author.Needs.{needs}
 use Rattle.merger.proofs.releasing.give.Statement.{statement}
 use Rattle.merger.proofs.releasing.give.Tie as tie
 
-enum-known-c : tie.Need-enum-known-c
-enum-known-c c = search needs
-
-enum-told : tie.Need-enum-told
-enum-told c = search needs
-
 returns : tie.Need-returns
 returns c = let s = c .before .before in give-neither (s .args .m) (s .pre .0) (s .args .c) (s .args .freed) (c .enum-told .given .1)
 
 snap-requires : tie.Need-snap-requires
 snap-requires c κs = let s = c .before .before .before .before in (s .pre .0 .sound .marked, subst FairChoice (c .before .before .c .given .1) (s .pre .1))
-
-after-requires : tie.Need-after-requires
-after-requires c κs = search needs
 
 returns-2 : tie.Need-returns-2
 returns-2 c = let s = c .before .before .before .before .before .before .before .before in give-frame (s .args .m) (s .pre .0) (s .args .c) (s .args .freed) _ _ _ _ (c .before .before .before .before .before .before .c .given .1) (c .before .before .before .snap .ensures) (c .before .before .after .ensures) (s .pre .1) (c .before .if1 .taken)
@@ -29,4 +20,4 @@ returns-3 c = let s = c .before .before .before .before .before .before .before 
 pub give-spec : {M : Type 1} → statement M
 give-spec =
     tie.close
-    (tie.spec enum-known-c enum-told returns snap-requires after-requires returns-2 returns-3)
+    (tie.spec (λ c. search needs) (λ c. search needs) returns snap-requires (λ c κs. search needs) returns-2 returns-3)
