@@ -1,6 +1,42 @@
-// What is certain: each statement below is the promise of a function that does nothing. A reader of the whole project starts here.
+// What is certain: each statement below is the promise of a function that does nothing but name what it rests on. A reader of the whole project starts here.
 ghost use Rattle.bits.specs.Alls.{All};
+ghost use Rattle.demands.specs.Demand1.{Demand1};
+ghost use Rattle.demands.specs.Demand2.{Demand2};
+ghost use Rattle.demands.specs.Demand3.{Demand3, Statements};
 ghost use Rattle.demands.specs.Examples.{Holds, starred};
+
+mod calls; // demand 1 of the calls themselves
+pub mod speech; // demand 2 of the calls themselves
+
+// Demand 1: bad input is refused with its number from document 01, the state is the one before the call, lent memory keeps its bytes; a field a call.
+pub fn demand_one()
+    ensures { λ _. ⌜ Demand1 ⌝ }
+{}
+
+// Demand 2: every encoded payload comes back with 0 corrections, and an accepted one has an encoding at exactly the reported distance.
+pub fn demand_two()
+    ensures { λ _. ⌜ Demand2 ⌝ }
+{
+    trials::round_trip();
+    trials::exact_distance();
+    trials::injective();
+}
+
+// Demand 3: silence before a lock, exact frames after it, and their offsets, over any history of calls.
+pub fn demand_three()
+    ensures { λ _. ⌜ Demand3 ⌝ }
+{
+    sync::demand_three_of_calls();
+}
+
+// Document 01's sentences on the synchroniser, after any history of calls.
+pub fn synchroniser_statements()
+    ensures { λ _. ⌜ Statements ⌝ }
+{
+    sync::calls_follow_the_rules();
+    sync::synchroniser_rules();
+    sync_rules::gap_rule();
+}
 
 // Document 01's starred examples, together.
 pub fn starred_examples()

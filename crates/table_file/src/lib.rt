@@ -1,12 +1,17 @@
-// The table from the file that an argument names. A table that is missing, cannot be read or is not admitted, its length included, is said on standard error
-// with document 01's number and the file's name.
+// The table from the file that an argument names. A table that is missing, cannot be read or is not admitted, its length included, is said with document 01's
+// number and the file's name, on the open file that the caller gives: standard error, where a program runs alone.
+ghost use mathlib.Core.Path.{_≡_};
+ghost use mathlib.Core.Bool.{true, false};
+ghost use Rattle.protected.specs.Table.{Admitted};
 
-fn refuse(name: &[u8]) -> bool {
-    io::write_all(2, b"refused ");
-    io::print_decimal(2, bits::number_of(bits::Refusal::Table) as u64);
-    io::write_all(2, b" ");
-    io::write_all(2, name);
-    io::write_all(2, b"\n");
+fn refuse(name: &[u8], errors: i32) -> bool
+    ensures { λ r. ⌜ r ≡ false ⌝ }
+{
+    io::write_all(errors, b"refused ");
+    io::print_decimal(errors, bits::number_of(bits::Refusal::Table) as u64);
+    io::write_all(errors, b" ");
+    io::write_all(errors, name);
+    io::write_all(errors, b"\n");
     false
 }
 
@@ -21,10 +26,12 @@ fn read_whole(fd: i32, table: &mut [u8]) -> bool {
     rest == 0
 }
 
-fn read(name: &[u8], table: &mut [u8]) -> bool {
+fn read(name: &[u8], errors: i32, table: &mut [u8]) -> bool
+    ensures { λ r. ⌜ (r ≡ true → Admitted (now (table .exit))) ⌝ }
+{
     let fd = os::open_read(name);
     if fd < 0 {
-        return refuse(name);
+        return refuse(name, errors);
     }
     let whole = read_whole(fd, &mut *table);
     libc::close(fd);
@@ -33,12 +40,14 @@ fn read(name: &[u8], table: &mut [u8]) -> bool {
             return true;
         }
     }
-    refuse(name)
+    refuse(name, errors)
 }
 
-// The table in the file that argument i names, into the lent table of 188 bytes; and whether it is admitted.
-pub fn from_argument(i: usize, table: &mut [u8]) -> bool {
+// The table in the file that argument i names, into the lent table of 188 bytes. A yes only where what is left there is admitted.
+pub fn from_argument(i: usize, errors: i32, table: &mut [u8]) -> bool
+    ensures { λ r. ⌜ (r ≡ true → Admitted (now (table .exit))) ⌝ }
+{
     let mut name = io::buffer();
     let n = os::arg(i, &mut name);
-    read(&name[..n], table)
+    read(&name[..n], errors, table)
 }

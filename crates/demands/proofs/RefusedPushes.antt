@@ -1,0 +1,142 @@
+-- Demand 1 of the synchroniser: a push by its three tests, and a feed by the tests of the push that it stopped before.
+-- Assumes nothing.
+use mathlib.Core.Bool.{Bool, true, false, cond}
+use mathlib.Core.List.{List, [], _∷_}
+use mathlib.Core.Logic.{_⊎_, inl, inr}
+use mathlib.Core.Path.{_≡_, refl, sym, ap, _∙_}
+use Prim.Native.Nat.{ℕ, _^_, _<_, _≤_}
+use native.Mathlib.Omega.{arith}
+use lib.Dec.{leb, ltb}
+use lib.ListN.{length, take, drop, length-drop, drop-of-length-le}
+use Rattle.bits.specs.declared.Refusal.{Refusal}
+use Rattle.bits.specs.declared.Refusal.the-variants.{Dibit, FrameRoom, StreamEnd}
+use Rattle.sync.specs.Answers.{answerTo, pushOf, takes, PushedBy}
+use Rattle.sync.specs.Feeds.{FedOut, FedBy, FeedRule, fedOf}
+use Rattle.sync.specs.Steps.{headsOf}
+use Rattle.sync.specs.View.{view}
+use Rattle.sync.specs.declared.Fed.{Fed}
+use Rattle.sync.specs.declared.Push.{Push}
+use Rattle.sync.specs.declared.Push.the-variants.{Taken, Refused}
+use Rattle.sync.specs.declared.Pushed.{Pushed}
+use Rattle.sync.specs.declared.Synchroniser.{Synchroniser}
+use Rattle.sync.proofs.Feeding.{feed-rules}
+use Rattle.sync_rules.specs.Frames.{Frame}
+use Rattle.sync_rules.specs.Pushes.{run}
+use Rattle.sync_rules.specs.Room.{laid}
+use Rattle.sync_rules.specs.State.{State, Input}
+use Rattle.demands.specs.Demand1.{test, firstNumber, Refuses, numberInPush, pushTests, nextTests, Unpushed, PushRefuses, FeedRefuses}
+
+-- ---- a push
+
+push-cases : (a b c : Bool)
+    → numberInPush (cond a (Refused Dibit) (cond b (Refused FrameRoom) (cond c (Refused StreamEnd) Taken))) ≡ firstNumber (test 1 a ∷ test 2 b ∷ test 3 c ∷ [])
+unfolding firstNumber
+push-cases true b c = refl
+push-cases false true c = refl
+push-cases false false true = refl
+push-cases false false false = refl
+
+push-number : (room : List ℕ) (x : Input) (m : State) → numberInPush (answerTo (length room) x m) ≡ firstNumber (pushTests room m (x .dibit))
+unfolding answerTo
+push-number room x m = push-cases (ltb 3 (x .dibit)) (ltb (length room) 1296) (leb (2 ^ 40) (m .taken))
+
+pub push-refuses : (s : Synchroniser) (x : Input) (room : List ℕ) (r : Pushed) (room′ : List ℕ) → PushedBy room room′ s x r → PushRefuses s x room r room′
+unfolding takes pushOf laid
+push-refuses s x room r room′ p =
+    record {
+      exactly = ap numberInPush (p .answer) ∙ push-number room x (view s);
+      as-before = λ h. nothing-done h (answerTo (length room) x (view s)) refl;
+    }
+  where
+    nothing-done : (numberInPush (r .answer) ≡ 0 → ⊥) → (a : Push) → answerTo (length room) x (view s) ≡ a → Unpushed s room r room′
+    nothing-done h Taken e = absurd (h (ap numberInPush (p .answer ∙ e)))
+    nothing-done h (Refused f) e =
+        record {
+          state = p .kept (ap takes (p .answer ∙ e));
+          nothing = (p .many ∙ ap (λ (a : Push). length (pushOf a x (view s) .sent)) e, p .figures ∙ ap (λ (a : Push). headsOf 3 (pushOf a x (view s) .sent)) e);
+          lent = p .stored ∙ ap (λ (a : Push). laid room 0 (pushOf a x (view s) .sent)) e;
+        }
+
+-- ---- a feed
+
+none-sent : (fs : List Frame) → length fs ≡ 0 → fs ≡ []
+none-sent [] h = refl
+none-sent (f ∷ fs) h = absurd (omega arith)
+
+module _ (room room′ : List ℕ) (s : Synchroniser) (inputs : List Input) (r : Fed) (fed : FedBy room room′ (fedOf (length room) inputs (view s)) r) where
+  abbrev Out : FedOut
+  Out = fedOf (length room) inputs (view s)
+
+  rule : FeedRule (length room) inputs (view s) Out
+  rule = feed-rules (length room) inputs (view s)
+
+  -- a refused feed stopped before an input, and its answer is that to the push of this
+  pub record Stopped (f : Refusal) : Type 0 where
+    pub next : Input
+    pub rest : List Input
+    pub left : drop (r .used) inputs ≡ next ∷ rest
+    pub answer : Out .answer ≡ answerTo (length room) next (Out .next)
+    pub sent : Out .sent ≡ []
+
+  stopped : (f : Refusal) → Out .answer ≡ Refused f → Stopped f
+  unfolding takes
+  stopped f e = by (drop (r .used) inputs) refl
+    where
+      zero-taken : takes (Out .answer) ≡ 0
+      zero-taken = ap takes e
+
+      by : (l : List Input) → drop (r .used) inputs ≡ l → Stopped f
+      by [] d =
+          let short : Out .used < length inputs = rule .refused zero-taken in
+          let n : length (drop (r .used) inputs) ≡ 0 = ap length d in
+          absurd (omega (arith, length-drop (r .used) inputs, fed .used))
+      by (x ∷ xs) d =
+          let at = rule .stop .1 x xs zero-taken (ap (λ (n : ℕ). drop n inputs) (sym (fed .used)) ∙ d) in
+          record { next = x; rest = xs; left = d; answer = at .0; sent = at .1 }
+
+  fed-refuses : r .pushed .count ≡ 0
+      → Refuses (nextTests room (view (r .pushed .next)) (drop (r .used) inputs)) (numberInPush (r .pushed .answer)) ((r .pushed .heads ≡ headsOf 3 []) × (room′ ≡ room))
+  unfolding laid firstNumber
+  fed-refuses zero-count =
+      record {
+        exactly = by (Out .answer) refl;
+        as-before = λ h. (fed .figures ∙ ap (headsOf 3) no-frame, fed .stored ∙ unlaid);
+      }
+    where
+      no-frame : Out .sent ≡ []
+      no-frame = none-sent (Out .sent) (sym (fed .many) ∙ zero-count)
+
+      unlaid : laid room 0 (Out .sent) ≡ room
+      unlaid = ap (laid room 0) no-frame
+
+      by : (a : Push) → Out .answer ≡ a → numberInPush (r .pushed .answer) ≡ firstNumber (nextTests room (view (r .pushed .next)) (drop (r .used) inputs))
+      by Taken e = ap numberInPush (fed .answer ∙ e) ∙ sym (ap (λ (l : List Input). firstNumber (nextTests room (view (r .pushed .next)) l)) (at-end (rule .stop .0 e)))
+        where
+          at-end : (Out .used ≡ length inputs) ⊎ (0 < length (Out .sent)) → drop (r .used) inputs ≡ []
+          at-end (inl h) = let all : length inputs ≤ r .used = omega (arith, fed .used) in drop-of-length-le inputs all
+          at-end (inr h) = absurd (omega (arith, fed .many))
+      by (Refused f) e =
+          let at = stopped f e in
+          ap numberInPush (fed .answer ∙ at .answer)
+          ∙ push-number room (at .next) (Out .next)
+          ∙ ap (λ (m : State). firstNumber (pushTests room m (at .next .dibit))) (sym (fed .next))
+          ∙ sym (ap (λ (l : List Input). firstNumber (nextTests room (view (r .pushed .next)) l)) (at .left))
+
+  fed-sends : 0 < r .pushed .count → numberInPush (r .pushed .answer) ≡ 0
+  fed-sends some = by (Out .answer) refl
+    where
+      by : (a : Push) → Out .answer ≡ a → numberInPush (r .pushed .answer) ≡ 0
+      by Taken e = ap numberInPush (fed .answer ∙ e)
+      by (Refused f) e = absurd (omega (arith, fed .many, ap length (stopped f e .sent)))
+
+  fed-rule : FeedRefuses s inputs room r room′
+  fed-rule =
+      record {
+        state = fed .next ∙ rule .next ∙ ap (λ (n : ℕ). run (take n inputs) (view s) .next) (sym (fed .used));
+        refuses = fed-refuses;
+        sends = fed-sends;
+      }
+
+pub feed-refuses : (s : Synchroniser) (inputs : List Input) (room : List ℕ) (r : Fed) (room′ : List ℕ)
+    → FedBy room room′ (fedOf (length room) inputs (view s)) r → FeedRefuses s inputs room r room′
+feed-refuses s inputs room r room′ fed = fed-rule room room′ s inputs r fed
