@@ -1,5 +1,5 @@
 // Runs the programs on stored files. The arguments are cases, one after the other: a program, its table if it has one, and its files; a line with these words
-// stands before what the program writes. `record` is without a table, `record-with` has one.
+// stands before what the program writes, what it says of its table included. `record` is without a table, `record-with` has one.
 ghost use Prim.Native.Nat.{_<_, _≤_};
 
 // A word of the line, and the file of that name, open.
@@ -41,7 +41,7 @@ fn run_with_table(letter: u8, i: usize) -> usize
     let fd = opened(i + 1);
     io::write_all(1, b"\n");
     let mut table = [0u8; 188];
-    if table_file::from_argument(i, &mut table) {
+    if table_file::from_argument(i, 1, &mut table) {
         if letter == b'r' {
             tasks::record_decoded(fd, &table);
         } else {
@@ -63,7 +63,7 @@ fn run_merge(i: usize) -> usize
     let alternate = opened(i + 2);
     io::write_all(1, b"\n");
     let mut table = [0u8; 188];
-    if table_file::from_argument(i, &mut table) {
+    if table_file::from_argument(i, 1, &mut table) {
         merging::merge(&table, primary, alternate);
     }
     libc::close(primary);

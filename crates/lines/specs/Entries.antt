@@ -1,8 +1,12 @@
 -- What `show` prints of a journal's record.
 -- Assumes nothing.
+use mathlib.Core.Bool.{cond}
 use mathlib.Core.List.{List, [], _∷_, _++_}
 use Prim.Native.Nat.{ℕ}
+use lib.Dec.{eqb}
+use lib.ListN.{length}
 use Rattle.bits.specs.Refusals.{numberOf}
+use Rattle.bits.specs.declared.Refusal.the-variants.{Size}
 use Rattle.journal.specs.declared.Outcome.{Outcome}
 use Rattle.journal.specs.declared.Outcome.the-variants.{Untried, Accepted, Refused as RefusedFrame}
 use Rattle.journal.specs.declared.Body.the-variants.{Frame, Gap}
@@ -10,6 +14,7 @@ use Rattle.journal.specs.declared.Body.{Body}
 use Rattle.journal.specs.declared.Figures.{Figures}
 use Rattle.journal.specs.declared.Reading.{Reading}
 use Rattle.journal.specs.declared.Reading.the-variants.{Holds, Refused}
+use Rattle.journal.specs.Reading.{readOf}
 use Rattle.journal.specs.declared.Between.{Between}
 use Rattle.journal.specs.declared.Between.the-variants.{NoGap, Gap as OneGap}
 use Rattle.lines.specs.declared.Line.{Line}
@@ -35,6 +40,10 @@ shownBody offset (Gap n) = record { what = AGap; line = lineOf (gapText offset n
 abbrev pub shownAs : Reading → ℕ → Shown
 shownAs (Holds e) number = shownBody (e .offset) (e .body)
 shownAs (Refused x) number = record { what = NoRecord; line = lineOf (refusedText (numberOf x) number) }
+
+-- what the input holds of a record: where it ends within the record there is none to read, and its size is refused (5)
+abbrev pub shownRecord : List ℕ → ℕ → Shown
+shownRecord bytes number = cond (eqb (length bytes) 64) (shownAs (readOf 64 bytes) number) (shownAs (Refused Size) number)
 
 -- the line of the gap before a frame; an empty one where there is none
 abbrev pub betweenLine : Between → Line

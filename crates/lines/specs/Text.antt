@@ -41,6 +41,17 @@ endText a b c = (101 ∷ 110 ∷ 100 ∷ []) ++ spaced a ++ spaced b ++ spaced c
 abbrev pub refusedText : ℕ → ℕ → List ℕ
 refusedText first second = (114 ∷ 101 ∷ 102 ∷ 117 ∷ 115 ∷ 101 ∷ 100 ∷ []) ++ spaced first ++ spaced second ++ lineFeed
 
+-- `refused` and the refusal's number: a call's answer, on standard error
+abbrev pub refusalText : ℕ → List ℕ
+refusalText number = (114 ∷ 101 ∷ 102 ∷ 117 ∷ 115 ∷ 101 ∷ 100 ∷ []) ++ spaced number ++ lineFeed
+
+-- `late`, `double` and `passed over`, each with how many frames of two merged recordings it kept out of the journal
+abbrev pub leftOutText : ℕ → ℕ → ℕ → List ℕ
+leftOutText late double passed =
+    (108 ∷ 97 ∷ 116 ∷ 101 ∷ []) ++ spaced late
+    ++ (32 ∷ 100 ∷ 111 ∷ 117 ∷ 98 ∷ 108 ∷ 101 ∷ []) ++ spaced double
+    ++ (32 ∷ 112 ∷ 97 ∷ 115 ∷ 115 ∷ 101 ∷ 100 ∷ 32 ∷ 111 ∷ 118 ∷ 101 ∷ 114 ∷ []) ++ spaced passed ++ lineFeed
+
 -- digit i of a payload in hexadecimal: two digits a byte, the high half first
 abbrev pub hexAt : List ℕ → ℕ → ℕ
 hexAt payload i = glyph (cond (ltb (i % 2) 1) (getD payload (i / 2) 0 / 16) (getD payload (i / 2) 0 % 16))

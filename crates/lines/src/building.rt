@@ -9,7 +9,7 @@ ghost use Rattle.lines.specs.Decimal.{decimal};
 ghost use Rattle.lines.specs.Text.{lineOf, frameWords, frameText, gapText, endText, refusedText};
 use crate::Line;
 
-pub fn empty() -> Line
+pub(crate) fn empty() -> Line
     ensures size { λ r. ⌜ r .size ≡ 0 ⌝ }
     ensures text { λ r. ⌜ r ≡ lineOf [] ⌝ }
 {
@@ -34,7 +34,7 @@ fn put(bytes: [u8; 128], at: usize, word: &[u8]) -> [u8; 128]
 }
 
 // The line with a word behind it.
-pub fn with_word(line: Line, word: &[u8]) -> Line
+pub(crate) fn with_word(line: Line, word: &[u8]) -> Line
     requires { ⌜ line .size + length (now word) ≤ 128 ⌝ }
     ensures size { λ r. ⌜ r .size ≡ line .size + length (now (word .entry)) ⌝ }
     ensures text { λ r. ⌜ ((t : List ℕ) → line ≡ lineOf t → r ≡ lineOf (t ++ now (word .entry))) ⌝ }
@@ -49,7 +49,7 @@ pub fn with_word(line: Line, word: &[u8]) -> Line
 }
 
 // The line with a space and a number behind it.
-pub fn with_number(line: Line, n: u64) -> Line
+pub(crate) fn with_number(line: Line, n: u64) -> Line
     requires { ⌜ line .size + 21 ≤ 128 ⌝ }
     ensures size { λ r. ⌜ r .size ≤ line .size + 21 ⌝ }
     ensures text { λ r. ⌜ ((t : List ℕ) → line ≡ lineOf t → r ≡ lineOf (t ++ (32 ∷ decimal n))) ⌝ }
@@ -67,7 +67,7 @@ fn bit_number(b: bool) -> u64
 }
 
 // A frame by its offset, whether it matched, and its errors, with the line not yet ended.
-pub fn frame_words(offset: u64, matched: bool, errors: u64) -> Line
+pub(crate) fn frame_words(offset: u64, matched: bool, errors: u64) -> Line
     ensures size { λ r. ⌜ r .size ≤ 68 ⌝ }
     ensures text { λ r. ⌜ r ≡ lineOf (frameWords offset matched errors) ⌝ }
 {
@@ -108,7 +108,7 @@ pub fn end_line(a: u64, b: u64, c: u64) -> Line
 }
 
 // What is refused, by two numbers.
-pub fn refused_line(first: u64, second: u64) -> Line
+pub(crate) fn refused_line(first: u64, second: u64) -> Line
     ensures { λ r. ⌜ r ≡ lineOf (refusedText first second) ⌝ }
 {
     let l0 = empty();

@@ -1,15 +1,30 @@
-// A line on standard output. No contract can say what is written; the line's text is its maker's promise.
+// A line on standard output or standard error. No contract can say what is written; the line's text is its maker's promise.
+ghost use mathlib.Core.Path.{_≡_};
+ghost use mathlib.Core.Bool.{false};
+ghost use Prim.Native.Nat.{_<_};
 use crate::Line;
 
-fn print_first(bytes: [u8; 128], size: usize) -> bool {
+fn write_first(fd: i32, bytes: [u8; 128], size: usize) -> bool
+    ensures { λ r. ⌜ (128 < size → r ≡ false) ⌝ }
+{
     if size > 128 {
         return false;
     }
-    io::write_all(1, &bytes[..size])
+    io::write_all(fd, &bytes[..size])
 }
 
-// Writes the line, and answers whether all of it was taken.
-pub fn print(line: Line) -> bool {
+// Writes the line, and answers whether all of it was taken: never of a line that says to be longer than its bytes.
+pub fn print(line: Line) -> bool
+    ensures { λ r. ⌜ (128 < line .size → r ≡ false) ⌝ }
+{
     let bytes = line.bytes;
-    print_first(bytes, line.size)
+    write_first(1, bytes, line.size)
+}
+
+// The same on standard error.
+pub fn print_error(line: Line) -> bool
+    ensures { λ r. ⌜ (128 < line .size → r ≡ false) ⌝ }
+{
+    let bytes = line.bytes;
+    write_first(2, bytes, line.size)
 }

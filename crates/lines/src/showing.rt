@@ -2,10 +2,9 @@
 ghost use mathlib.Core.Path.{_≡_};
 ghost use mathlib.Core.List.{List, _++_};
 ghost use Prim.Native.Nat.{ℕ, _+_, _≤_};
-ghost use Rattle.journal.specs.Reading.{readOf};
 ghost use Rattle.lines.specs.Text.{lineOf};
 ghost use Rattle.journal.specs.Gaps.{gapTo};
-ghost use Rattle.lines.specs.Entries.{outcomeWords, figuresText, shownBody, shownAs, betweenLine};
+ghost use Rattle.lines.specs.Entries.{outcomeWords, figuresText, shownBody, shownAs, shownRecord, betweenLine};
 use crate::Line;
 use crate::Shown;
 use crate::What;
@@ -15,6 +14,7 @@ use crate::building::gap_line;
 use crate::building::refused_line;
 use crate::building::with_number;
 use crate::building::with_word;
+use bits::Refusal;
 use bits::number_of;
 use bits::wide;
 use journal::Between;
@@ -77,23 +77,31 @@ fn shown_body(offset: u64, body: Body) -> Shown
     }
 }
 
-// The line of a record, or of its refusal, the record being the one of that number.
-pub fn show_record(record: &[u8], number: u64) -> Shown
-    ensures { λ r. ⌜ r ≡ shownAs (readOf 64 (now («record» .entry))) number ⌝ }
+// The line of a refusal, the record being the one of that number.
+fn refused_record(refusal: Refusal, number: u64) -> Shown
+    ensures { λ r. ⌜ r ≡ shownAs (Reading.Refused refusal) number ⌝ }
 {
+    let line = refused_line(wide(number_of(refusal)) as u64, number);
+    Shown {
+        what: What::NoRecord,
+        line,
+    }
+}
+
+// The line of a record, or of its refusal, the record being the one of that number: what is there of it where the input ends has a wrong size.
+pub fn show_record(record: &[u8], number: u64) -> Shown
+    ensures { λ r. ⌜ r ≡ shownRecord (now («record» .entry)) number ⌝ }
+{
+    if record.len() != 64 {
+        return refused_record(Refusal::Size, number);
+    }
     let reading = journal::read(record);
     match reading {
         Reading::Holds(entry) => {
             let body = entry.body;
             shown_body(entry.offset, body)
         }
-        Reading::Refused(refusal) => {
-            let line = refused_line(wide(number_of(refusal)) as u64, number);
-            Shown {
-                what: What::NoRecord,
-                line,
-            }
-        }
+        Reading::Refused(refusal) => refused_record(refusal, number),
     }
 }
 

@@ -19,7 +19,7 @@ fn main() {
         return;
     }
     let mut table = [0u8; 188];
-    if !table_file::from_argument(1, &mut table) {
+    if !table_file::from_argument(1, 2, &mut table) {
         return;
     }
     let primary = open_argument(2);

@@ -9,17 +9,22 @@ mod shelves;
 
 use journal::Earlier;
 use merger::Merger;
+pub use recordings::Merged;
 pub use recordings::merge;
 use shelves::Shelf;
 
-// The merger, the waiting frames of the two streams, the frame written last, and how many frames are not in the journal: those that came late, those whose
-// place was taken, and those whose position was passed over.
+// The merger, the waiting frames of both streams, the frame written last; and what became of the frames that were handed in: taken in by the merger, late, their
+// place taken, or refused. Of those taken in, how many are in the journal, how many gave way to the other stream's frame of their position, and how many were
+// passed over; the others wait.
 pub struct Work {
     pub merger: Merger,
-    pub primary: Shelf,
-    pub alternate: Shelf,
+    pub shelf: Shelf,
     pub earlier: Earlier,
+    pub kept: u64,
     pub late: u64,
     pub double: u64,
+    pub refused: u64,
+    pub released: u64,
+    pub others: u64,
     pub passed: u64,
 }

@@ -1,10 +1,9 @@
 // A frame on its way into the merger.
 ghost use mathlib.Core.Path.{_≡_};
-ghost use Prim.Native.Nat.{_<_};
+ghost use Prim.Native.Nat.{_+_, _^_, _≤_, _<_, min};
 ghost use lib.ListN.{length};
-ghost use Rattle.merger.specs.States.{Valid};
+ghost use Rattle.merging.specs.Accounts.{Accounted, toldOf, settles};
 use crate::Work;
-use crate::releasing::more;
 use crate::releasing::release_first;
 use crate::shelves::free_slot;
 use crate::shelves::with_frame;
@@ -14,11 +13,10 @@ use merger::Clock;
 use merger::Pushed;
 use sync_rules::Head;
 use tasks::Tried;
-use tasks::complain;
 use tasks::try_frame;
 
 // What became of a frame: the merger took it in or let it go, or refused it.
-enum Answer {
+pub enum Answer {
     Settled,
     Refused(Refusal),
 }
@@ -37,48 +35,15 @@ fn passes(outcome: Outcome) -> bool {
     }
 }
 
-// A free slot on the stream's shelf.
-fn slot_for(w: Work, stream: usize) -> usize {
-    let primary = w.primary;
-    let alternate = w.alternate;
-    if stream == 0 {
-        let taken = primary.taken;
-        return free_slot(taken);
-    }
-    let taken = alternate.taken;
-    free_slot(taken)
-}
-
-// A kept frame into its slot.
-fn kept(w: Work, stream: usize, slot: usize, tried: Tried, envelope: &[u8]) -> Work
-    requires { ⌜ Valid (w .merger) ⌝ ∗ ⌜ slot < 17 ⌝ ∗ ⌜ length (now envelope) ≡ 48 ⌝ }
-    ensures { λ r. ⌜ Valid (r .merger) ⌝ }
-{
-    let mut next = w;
-    if stream == 0 {
-        let primary = w.primary;
-        let shelf = with_frame(primary, slot, tried, envelope);
-        next.primary = shelf;
-    } else {
-        let alternate = w.alternate;
-        let shelf = with_frame(alternate, slot, tried, envelope);
-        next.alternate = shelf;
-    }
-    next
-}
-
-// The frame goes to the merger once. That no slot is free does not happen while the merger takes frames in; it is answered like the merger's refusal.
+// The frame goes to the merger once, with a free slot's place as its number.
 fn offer_once(w: Work, stream: usize, head: Head, tried: Tried, envelope: &[u8]) -> Offered
-    requires { ⌜ Valid (w .merger) ⌝ ∗ ⌜ length (now envelope) ≡ 48 ⌝ }
-    ensures { λ r. ⌜ Valid (r .work .merger) ⌝ }
+    requires { ⌜ Accounted w ⌝ ∗ ⌜ toldOf w + 1 < 2 ^ 44 ⌝ ∗ ⌜ length (now envelope) ≡ 48 ⌝ }
+    ensures accounted { λ r. ⌜ Accounted (r .work) ⌝ }
+    ensures told { λ r. ⌜ toldOf (r .work) ≡ toldOf w + settles (r .answer) ⌝ }
 {
-    let slot = slot_for(w, stream);
-    if 16 < slot {
-        return Offered {
-            answer: Answer::Refused(Refusal::Positions),
-            work: w,
-        };
-    }
+    let shelf = w.shelf;
+    let taken = shelf.taken;
+    let slot = free_slot(taken);
     let m = w.merger;
     let outcome = tried.outcome;
     let after = m.push(stream, head, slot as u64, passes(outcome));
@@ -88,45 +53,67 @@ fn offer_once(w: Work, stream: usize, head: Head, tried: Tried, envelope: &[u8])
     let answer = after.answer;
     match answer {
         Pushed::Kept => {
-            next = kept(next, stream, slot, tried, envelope);
+            let filled = with_frame(shelf, slot, tried, envelope);
+            next.shelf = filled;
+            next.kept = w.kept + 1;
+            Offered {
+                answer: Answer::Settled,
+                work: next,
+            }
         }
         Pushed::Double => {
-            next.double = more(next.double);
+            next.double = w.double + 1;
+            Offered {
+                answer: Answer::Settled,
+                work: next,
+            }
         }
         Pushed::Late => {
-            next.late = more(next.late);
-        }
-        Pushed::Refused(refusal) => {
-            return Offered {
-                answer: Answer::Refused(refusal),
+            next.late = w.late + 1;
+            Offered {
+                answer: Answer::Settled,
                 work: next,
-            };
+            }
         }
+        Pushed::Refused(refusal) => Offered {
+            answer: Answer::Refused(refusal),
+            work: next,
+        },
     }
-    Offered {
-        answer: Answer::Settled,
-        work: next,
-    }
+}
+
+// A frame that the merger refuses is said by the refusal's number, and counted.
+fn refused(w: Work, refusal: Refusal) -> Work
+    requires { ⌜ Accounted w ⌝ ∗ ⌜ toldOf w + 1 < 2 ^ 44 ⌝ }
+    ensures accounted { λ r. ⌜ Accounted r ⌝ }
+    ensures told { λ r. ⌜ toldOf r ≡ toldOf w + 1 ⌝ }
+{
+    lines::print_error(lines::refusal_line(refusal));
+    let mut next = w;
+    next.refused = w.refused + 1;
+    next
 }
 
 // The frame once more, after room was made for it.
 fn offer_again(w: Work, stream: usize, head: Head, tried: Tried, envelope: &[u8]) -> Work
-    requires { ⌜ Valid (w .merger) ⌝ ∗ ⌜ length (now envelope) ≡ 48 ⌝ }
-    ensures { λ r. ⌜ Valid (r .merger) ⌝ }
+    requires { ⌜ Accounted w ⌝ ∗ ⌜ toldOf w + 1 < 2 ^ 44 ⌝ ∗ ⌜ length (now envelope) ≡ 48 ⌝ }
+    ensures accounted { λ r. ⌜ Accounted r ⌝ }
+    ensures told { λ r. ⌜ toldOf r ≡ toldOf w + 1 ⌝ }
 {
     let offered = offer_once(w, stream, head, tried, envelope);
+    let work = offered.work;
     let answer = offered.answer;
     match answer {
-        Answer::Settled => {}
-        Answer::Refused(refusal) => complain(refusal),
+        Answer::Settled => work,
+        Answer::Refused(refusal) => refused(work, refusal),
     }
-    offered.work
 }
 
 // A frame, with the hard decoder's yes or no. Where 16 positions wait, the first is released before its time, as at a flush, and nothing is lost.
 fn offer(w: Work, table: &[u8], stream: usize, head: Head, envelope: &[u8]) -> Work
-    requires { ⌜ Valid (w .merger) ⌝ ∗ ⌜ length (now envelope) ≡ 48 ⌝ }
-    ensures { λ r. ⌜ Valid (r .merger) ⌝ }
+    requires { ⌜ Accounted w ⌝ ∗ ⌜ toldOf w + 1 < 2 ^ 44 ⌝ ∗ ⌜ length (now envelope) ≡ 48 ⌝ }
+    ensures accounted { λ r. ⌜ Accounted r ⌝ }
+    ensures told { λ r. ⌜ toldOf r ≡ toldOf w + 1 ⌝ }
 {
     let tried = try_frame(table, envelope);
     let offered = offer_once(w, stream, head, tried, envelope);
@@ -141,28 +128,8 @@ fn offer(w: Work, table: &[u8], stream: usize, head: Head, envelope: &[u8]) -> W
     }
 }
 
-// Frame k of a push, if it has so many; its envelope is at room byte 432·k.
-fn offer_one(
-    w: Work,
-    table: &[u8],
-    stream: usize,
-    heads: [Head; 3],
-    count: usize,
-    k: usize,
-    room: &[u8],
-) -> Work
-    requires { ⌜ Valid (w .merger) ⌝ ∗ ⌜ k < 3 ⌝ ∗ ⌜ length (now room) ≡ 1296 ⌝ }
-    ensures { λ r. ⌜ Valid (r .merger) ⌝ }
-{
-    if count <= k {
-        return w;
-    }
-    let head = heads[k];
-    offer(w, table, stream, head, &room[432 * k..432 * k + 48])
-}
-
-// The frames of one push.
-pub fn offer_all(
+// The frames of one push, of which there are at most three; frame k's envelope is at room byte 432·k.
+pub(crate) fn offer_all(
     w: Work,
     table: &[u8],
     stream: usize,
@@ -170,12 +137,16 @@ pub fn offer_all(
     count: usize,
     room: &[u8],
 ) -> Work
-    requires { ⌜ Valid (w .merger) ⌝ ∗ ⌜ length (now room) ≡ 1296 ⌝ }
-    ensures { λ r. ⌜ Valid (r .merger) ⌝ }
+    requires { ⌜ Accounted w ⌝ ∗ ⌜ toldOf w + 3 < 2 ^ 44 ⌝ ∗ ⌜ count ≤ 3 ⌝ ∗ ⌜ length (now room) ≡ 1296 ⌝ }
+    ensures accounted { λ r. ⌜ Accounted r ⌝ }
+    ensures told { λ r. ⌜ toldOf r ≡ toldOf w + count ⌝ }
 {
     let mut work = w;
-    for k in 0..3usize {
-        work = offer_one(work, table, stream, heads, count, k, room);
+    let mut k: usize = 0;
+    while k < count {
+        let head = heads[k];
+        work = offer(work, table, stream, head, &room[432 * k..432 * k + 48]);
+        k += 1;
     }
     work
 }

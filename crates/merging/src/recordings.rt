@@ -1,10 +1,9 @@
 // The two recordings, piece by piece and dibit by dibit.
 ghost use mathlib.Core.Path.{_≡_};
-ghost use Prim.Native.Nat.{_/_, _≤_, _<_};
+ghost use Prim.Native.Nat.{_+_, _^_, _≤_, _<_};
 ghost use lib.ListN.{length};
-ghost use Rattle.sync.specs.View.{Valid};
-ghost use Rattle.merger.specs.States.{Valid as Sound};
-ghost use Rattle.merging.specs.Recordings.{Ready};
+ghost use Rattle.merging.specs.Accounts.{Accounted, toldOf};
+ghost use Rattle.merging.specs.Recordings.{Sound, Took, Paired, Ready, AddsUp};
 use crate::Work;
 use crate::offering::offer_all;
 use crate::releasing::release_all;
@@ -15,7 +14,6 @@ use merger::Merger;
 use sync::Push;
 use sync::Synchroniser;
 use sync_rules::Head;
-use tasks::complain;
 
 // The synchronisers of the primary and of the alternate, and what is made of their frames.
 pub struct Recordings {
@@ -25,16 +23,30 @@ pub struct Recordings {
     pub ended: bool,
 }
 
-// What a dibit brought: how far the stream is settled, and the frames that went out.
-struct News {
-    settled: Clock,
-    count: usize,
-    heads: [Head; 3],
+// The synchronisers when both recordings have ended, and what became of their frames: of all frames, how many the merger took in, how many came late, found
+// their place taken or were refused; of those taken in, how many are in the journal, gave way to the other stream's frame, or were passed over.
+pub struct Merged {
+    pub first: Synchroniser,
+    pub second: Synchroniser,
+    pub kept: u64,
+    pub late: u64,
+    pub double: u64,
+    pub refused: u64,
+    pub released: u64,
+    pub others: u64,
+    pub passed: u64,
 }
 
-struct Taken {
-    sync: Synchroniser,
-    news: News,
+// What a dibit brought: how far the stream is settled, and the frames that went out.
+pub struct News {
+    pub settled: Clock,
+    pub count: usize,
+    pub heads: [Head; 3],
+}
+
+pub struct Taken {
+    pub sync: Synchroniser,
+    pub news: News,
 }
 
 // The same of both streams.
@@ -64,7 +76,7 @@ fn settled_at(answer: Push, offset: u64) -> Clock {
     match answer {
         Push::Taken => Clock::At(offset),
         Push::Refused(refusal) => {
-            complain(refusal);
+            lines::print_error(lines::refusal_line(refusal));
             Clock::Absent
         }
     }
@@ -72,8 +84,8 @@ fn settled_at(answer: Push, offset: u64) -> Clock {
 
 // A recording that has no dibit i in this piece has ended, and is absent.
 fn absent(s: Synchroniser) -> Taken
-    requires { ⌜ Valid s ⌝ }
-    ensures { λ r. ⌜ Valid (r .sync) ⌝ }
+    requires { ⌜ Sound s ⌝ }
+    ensures { λ r. ⌜ Took s (r .sync) (r .news .count) ⌝ }
 {
     let none = Head {
         offset: 0,
@@ -90,8 +102,8 @@ fn absent(s: Synchroniser) -> Taken
 
 // Dibit i of a piece.
 fn take(s: Synchroniser, piece: &[u8], i: usize, room: &mut [u8; 1296]) -> Taken
-    requires { ⌜ Valid s ⌝ }
-    ensures { λ r. ⌜ Valid (r .sync) ⌝ }
+    requires { ⌜ Sound s ⌝ }
+    ensures { λ r. ⌜ Took s (r .sync) (r .news .count) ⌝ }
 {
     let at = i / 4;
     if piece.len() <= at {
@@ -119,8 +131,9 @@ fn take_both(
     one: &mut [u8; 1296],
     two: &mut [u8; 1296],
 ) -> Both
-    requires { ⌜ Valid first ⌝ ∗ ⌜ Valid second ⌝ }
-    ensures { λ r. ⌜ Valid (r .first) × Valid (r .second) ⌝ }
+    requires { ⌜ Sound first ⌝ ∗ ⌜ Sound second ⌝ }
+    ensures one { λ r. ⌜ Took first (r .first) (r .primary .count) ⌝ }
+    ensures other { λ r. ⌜ Took second (r .second) (r .alternate .count) ⌝ }
 {
     let a = take(first, primary, i, one);
     let b = take(second, alternate, i, two);
@@ -138,8 +151,9 @@ fn take_both(
 
 // The frames of one push, if it has any.
 fn offered(w: Work, table: &[u8], stream: usize, news: News, room: &[u8; 1296]) -> Work
-    requires { ⌜ Sound (w .merger) ⌝ }
-    ensures { λ r. ⌜ Sound (r .merger) ⌝ }
+    requires { ⌜ Accounted w ⌝ ∗ ⌜ toldOf w + 3 < 2 ^ 44 ⌝ ∗ ⌜ news .count ≤ 3 ⌝ }
+    ensures accounted { λ r. ⌜ Accounted r ⌝ }
+    ensures told { λ r. ⌜ toldOf r ≡ toldOf w + news .count ⌝ }
 {
     if news.count == 0 {
         return w;
@@ -150,8 +164,9 @@ fn offered(w: Work, table: &[u8], stream: usize, news: News, room: &[u8; 1296]) 
 
 // What is ready, if anything waits.
 fn released(w: Work, primary: Clock, alternate: Clock) -> Work
-    requires { ⌜ Sound (w .merger) ⌝ }
-    ensures { λ r. ⌜ Sound (r .merger) ⌝ }
+    requires { ⌜ Accounted w ⌝ ∗ ⌜ toldOf w < 2 ^ 44 ⌝ }
+    ensures accounted { λ r. ⌜ Accounted r ⌝ }
+    ensures told { λ r. ⌜ toldOf r ≡ toldOf w ⌝ }
 {
     let m = w.merger;
     if m.n == 0 {
@@ -169,8 +184,9 @@ fn made_of(
     one: &[u8; 1296],
     two: &[u8; 1296],
 ) -> Work
-    requires { ⌜ Sound (w .merger) ⌝ }
-    ensures { λ r. ⌜ Sound (r .merger) ⌝ }
+    requires { ⌜ Accounted w ⌝ ∗ ⌜ toldOf w + 6 < 2 ^ 44 ⌝ ∗ ⌜ primary .count ≤ 3 ⌝ ∗ ⌜ alternate .count ≤ 3 ⌝ }
+    ensures accounted { λ r. ⌜ Accounted r ⌝ }
+    ensures told { λ r. ⌜ toldOf r ≡ toldOf w + (primary .count + alternate .count) ⌝ }
 {
     let v = offered(w, table, 0, primary, one);
     let work = offered(v, table, 1, alternate, two);
@@ -232,15 +248,17 @@ fn begun() -> Recordings
     let first = Synchroniser::new();
     let second = Synchroniser::new();
     let merger = Merger::new();
-    let primary = empty();
-    let alternate = empty();
+    let shelf = empty();
     let work = Work {
         merger,
-        primary,
-        alternate,
+        shelf,
         earlier: Earlier::Nothing,
+        kept: 0,
         late: 0,
         double: 0,
+        refused: 0,
+        released: 0,
+        others: 0,
         passed: 0,
     };
     Recordings {
@@ -251,28 +269,45 @@ fn begun() -> Recordings
     }
 }
 
-fn say(words: &[u8], n: u64) {
-    io::write_all(2, words);
-    io::print_decimal(2, n);
-}
-
 // Frames that are not in the journal are counted on standard error, if there are any.
-fn say_rest(w: Work) {
-    if w.late == 0 {
-        if w.double == 0 {
-            if w.passed == 0 {
+fn say_left_out(late: u64, double: u64, passed: u64) {
+    if late == 0 {
+        if double == 0 {
+            if passed == 0 {
                 return;
             }
         }
     }
-    say(b"late ", w.late);
-    say(b" double ", w.double);
-    say(b" passed over ", w.passed);
-    io::write_all(2, b"\n");
+    lines::print_error(lines::left_out_line(late, double, passed));
+}
+
+// Both recordings have ended: what still waits is flushed.
+fn finished(r: Recordings) -> Merged
+    requires { ⌜ Ready r ⌝ }
+    ensures { λ m. ⌜ AddsUp m ⌝ }
+{
+    let before = r.work;
+    let work = release_all(before, Clock::Absent, Clock::Absent, true);
+    say_left_out(work.late, work.double, work.passed);
+    let first = r.first;
+    let second = r.second;
+    Merged {
+        first,
+        second,
+        kept: work.kept,
+        late: work.late,
+        double: work.double,
+        refused: work.refused,
+        released: work.released,
+        others: work.others,
+        passed: work.passed,
+    }
 }
 
 // The journal of two open recordings. A proved loop has to end, and nothing says that the input does: the loop counts its turns down, from a number that no run uses up.
-pub fn merge(table: &[u8], primary: i32, alternate: i32) {
+pub fn merge(table: &[u8], primary: i32, alternate: i32) -> Merged
+    ensures { λ m. ⌜ AddsUp m ⌝ }
+{
     let mut r = begun();
     let mut turns = u64::MAX;
     while turns > 0 {
@@ -283,6 +318,5 @@ pub fn merge(table: &[u8], primary: i32, alternate: i32) {
             turns -= 1;
         }
     }
-    let work = r.work;
-    say_rest(release_all(work, Clock::Absent, Clock::Absent, true));
+    finished(r)
 }

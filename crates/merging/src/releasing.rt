@@ -1,11 +1,15 @@
 // What the merger releases, into the journal.
-ghost use Rattle.merger.specs.States.{Valid};
-ghost use Prim.Native.Nat.{_<_};
+ghost use mathlib.Core.Path.{_≡_};
+ghost use mathlib.Core.Bool.{true, false};
+ghost use Prim.Native.Nat.{_+_, _^_, _≤_, _<_};
+ghost use Rattle.merging.specs.Accounts.{Small, Accounted, TookOut, toldOf, countFreed};
 use crate::Work;
 use crate::shelves::Shelf;
+use crate::shelves::how_many;
 use crate::shelves::without;
 use journal::Earlier;
 use merger::Clock;
+use merger::Free;
 use merger::Freed;
 use merger::Merger;
 use merger::Release;
@@ -19,33 +23,17 @@ pub struct Went {
     pub work: Work,
 }
 
-pub fn more(n: u64) -> u64 {
-    std::num::wrapping_add_u64(n, 1)
-}
-
 // What the decoder said of the frame in a slot.
 fn tried_in(shelf: Shelf, slot: usize) -> Tried
-    requires { ⌜ slot < 17 ⌝ }
+    requires { ⌜ slot < 33 ⌝ }
 {
     let all = shelf.tried;
     all[slot]
 }
 
-// What the decoder said of the released frame.
-fn tried_of(w: Work, slot: usize, alternate: bool) -> Tried
-    requires { ⌜ slot < 17 ⌝ }
-{
-    if alternate {
-        let shelf = w.alternate;
-        return tried_in(shelf, slot);
-    }
-    let shelf = w.primary;
-    tried_in(shelf, slot)
-}
-
 // The envelope in a slot.
-fn envelope_in(envelopes: [u8; 816], slot: usize) -> [u8; 48]
-    requires { ⌜ slot < 17 ⌝ }
+fn envelope_in(envelopes: [u8; 1584], slot: usize) -> [u8; 48]
+    requires { ⌜ slot < 33 ⌝ }
 {
     let mut envelope = [0u8; 48];
     for i in 0..48usize {
@@ -54,58 +42,96 @@ fn envelope_in(envelopes: [u8; 816], slot: usize) -> [u8; 48]
     envelope
 }
 
-// The record of a released frame, with the gap before it: the envelope of the stream that the merger names, from the slot whose number it gives.
-fn write_in_slot(w: Work, slot: usize, r: Release)
-    requires { ⌜ slot < 17 ⌝ }
+// The envelope of the frame whose number a place gave back; zeros where it held none.
+fn envelope_of(shelf: Shelf, free: Free) -> [u8; 48]
+    requires { ⌜ Small free ⌝ }
 {
-    let primary = w.primary;
-    let alternate = w.alternate;
-    let firsts = primary.envelopes;
-    let seconds = alternate.envelopes;
-    let first = envelope_in(firsts, slot);
-    let second = envelope_in(seconds, slot);
-    let tried = tried_of(w, slot, r.alternate);
-    let earlier = w.earlier;
+    match free {
+        Free::Nothing => [0u8; 48],
+        Free::Number(slot) => {
+            let envelopes = shelf.envelopes;
+            envelope_in(envelopes, slot as usize)
+        }
+    }
+}
+
+// The record of a released frame, with the gap before it: of the position's two envelopes the one of the stream that the merger names.
+fn write_release(shelf: Shelf, earlier: Earlier, r: Release, freed: Freed)
+    requires { ⌜ r .number < 33 ⌝ ∗ ⌜ Small (freed .primary) ⌝ ∗ ⌜ Small (freed .alternate) ⌝ }
+{
+    let primary = freed.primary;
+    let alternate = freed.alternate;
+    let first = envelope_of(shelf, primary);
+    let second = envelope_of(shelf, alternate);
+    let tried = tried_in(shelf, r.number as usize);
     let figures = r.figures;
     let envelope = merger::chosen(&first, &second, r.alternate);
     write_frame(earlier, figures, tried, envelope);
 }
 
-// The numbers that the merger knows are slots.
-fn write_release(w: Work, r: Release) {
-    if r.number < 17 {
-        write_in_slot(w, r.number as usize, r);
+// The work after a position was taken out one of whose frames is in the journal.
+fn journaled(w: Work, merger: Merger, freed: Freed, earlier: Earlier) -> Work
+    requires { ⌜ Accounted w ⌝ ∗ ⌜ TookOut w merger freed ⌝ ∗ ⌜ 1 ≤ countFreed freed ⌝ ∗ ⌜ toldOf w < 2 ^ 44 ⌝ }
+    ensures accounted { λ r. ⌜ Accounted r ⌝ }
+    ensures told { λ r. ⌜ toldOf r ≡ toldOf w ⌝ }
+    ensures merger { λ r. ⌜ r .merger ≡ «merger» ⌝ }
+{
+    let before = w.shelf;
+    let shelf = without(before, freed);
+    let first = freed.primary;
+    let second = freed.alternate;
+    let out = how_many(first) + how_many(second);
+    Work {
+        merger,
+        shelf,
+        earlier,
+        kept: w.kept,
+        late: w.late,
+        double: w.double,
+        refused: w.refused,
+        released: w.released + 1,
+        others: w.others + (out - 1),
+        passed: w.passed,
     }
 }
 
-// The work with the merger after a release, and the slots of the frames that it gave back free again.
-fn released_on(w: Work, merger: Merger, freed: Freed, earlier: Earlier, passed: u64) -> Work
-    requires { ⌜ Valid merger ⌝ }
-    ensures { λ r. ⌜ Valid (r .merger) ⌝ }
+// The work after a position was passed over.
+fn passed_over(w: Work, merger: Merger, freed: Freed) -> Work
+    requires { ⌜ Accounted w ⌝ ∗ ⌜ TookOut w merger freed ⌝ ∗ ⌜ toldOf w < 2 ^ 44 ⌝ }
+    ensures accounted { λ r. ⌜ Accounted r ⌝ }
+    ensures told { λ r. ⌜ toldOf r ≡ toldOf w ⌝ }
+    ensures merger { λ r. ⌜ r .merger ≡ «merger» ⌝ }
 {
+    let before = w.shelf;
+    let shelf = without(before, freed);
     let first = freed.primary;
     let second = freed.alternate;
-    let a = w.primary;
-    let b = w.alternate;
-    let primary = without(a, first);
-    let alternate = without(b, second);
+    let out = how_many(first) + how_many(second);
+    let earlier = w.earlier;
     Work {
         merger,
-        primary,
-        alternate,
+        shelf,
         earlier,
+        kept: w.kept,
         late: w.late,
         double: w.double,
-        passed,
+        refused: w.refused,
+        released: w.released,
+        others: w.others,
+        passed: w.passed + out,
     }
 }
 
 // The first position, if it is ready.
-pub fn release_first(w: Work, primary: Clock, alternate: Clock, flush: bool) -> Went
-    requires { ⌜ Valid (w .merger) ⌝ }
-    ensures { λ r. ⌜ Valid (r .work .merger) ⌝ }
+pub(crate) fn release_first(w: Work, primary: Clock, alternate: Clock, flush: bool) -> Went
+    requires { ⌜ Accounted w ⌝ ∗ ⌜ toldOf w < 2 ^ 44 ⌝ }
+    ensures accounted { λ r. ⌜ Accounted (r .work) ⌝ }
+    ensures told { λ r. ⌜ toldOf (r .work) ≡ toldOf w ⌝ }
+    ensures fewer { λ r. ⌜ (r .more ≡ true → r .work .merger .n + 1 ≡ w .merger .n) ⌝ }
+    ensures none { λ r. ⌜ (flush ≡ true → r .more ≡ false → r .work .merger .n ≡ 0) ⌝ }
 {
     let m = w.merger;
+    let shelf = w.shelf;
     let earlier = w.earlier;
     let after = m.release(primary, alternate, flush);
     let merger = after.merger;
@@ -113,13 +139,13 @@ pub fn release_first(w: Work, primary: Clock, alternate: Clock, flush: bool) -> 
     let answer = after.answer;
     match answer {
         Released::Frame(r) => {
-            write_release(w, r);
+            write_release(shelf, earlier, r, freed);
             let figures = r.figures;
-            let work = released_on(w, merger, freed, Earlier::At(figures.offset), w.passed);
+            let work = journaled(w, merger, freed, Earlier::At(figures.offset));
             Went { more: true, work }
         }
         Released::PassedOver => {
-            let work = released_on(w, merger, freed, earlier, more(w.passed));
+            let work = passed_over(w, merger, freed);
             Went { more: true, work }
         }
         Released::NothingReady => Went {
@@ -129,10 +155,12 @@ pub fn release_first(w: Work, primary: Clock, alternate: Clock, flush: bool) -> 
     }
 }
 
-// All positions that are ready: at most 16 wait.
-pub fn release_all(w: Work, primary: Clock, alternate: Clock, flush: bool) -> Work
-    requires { ⌜ Valid (w .merger) ⌝ }
-    ensures { λ r. ⌜ Valid (r .merger) ⌝ }
+// All positions that are ready: at most 16 wait. At a flush none is left.
+pub(crate) fn release_all(w: Work, primary: Clock, alternate: Clock, flush: bool) -> Work
+    requires { ⌜ Accounted w ⌝ ∗ ⌜ toldOf w < 2 ^ 44 ⌝ }
+    ensures accounted { λ r. ⌜ Accounted r ⌝ }
+    ensures told { λ r. ⌜ toldOf r ≡ toldOf w ⌝ }
+    ensures none { λ r. ⌜ (flush ≡ true → r .merger .n ≡ 0) ⌝ }
 {
     let mut work = w;
     let mut k: usize = 0;

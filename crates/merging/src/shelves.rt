@@ -1,36 +1,42 @@
-// A stream's shelf: a slot for each of its frames that waits in the merger, and one for the frame that is handed in. At most 16 positions wait, and each holds at
-// most one frame of the stream: so 17 slots are enough, and the memory is constant. A slot's place is the number that the merger keeps for its frame.
+// The shelf: a slot for each frame that waits in the merger, and one for the frame that is handed in. At most 16 positions wait, and each holds at most one frame
+// of each stream: so 33 slots are enough, and the memory is constant. A slot's place is the number that the merger keeps for its frame.
 ghost use mathlib.Core.Path.{_≡_};
-ghost use Prim.Native.Nat.{_<_, _≤_};
-ghost use lib.ListN.{length};
+ghost use mathlib.Core.Bool.{true, false};
+ghost use Prim.Native.Nat.{_<_};
+ghost use lib.ListN.{length, getD, set, replicate};
+ghost use Rattle.merging.specs.Accounts.{used, Small, cleared, countFree};
 use merger::Free;
+use merger::Freed;
 use tasks::Tried;
 
 // Which slots are taken, what the decoder said of their frames, and their envelopes, 48 bytes a slot.
 pub struct Shelf {
-    pub taken: [bool; 17],
-    pub tried: [Tried; 17],
-    pub envelopes: [u8; 816],
+    pub taken: [bool; 33],
+    pub tried: [Tried; 33],
+    pub envelopes: [u8; 1584],
 }
 
-pub fn empty() -> Shelf {
+pub(crate) fn empty() -> Shelf
+    ensures { λ r. ⌜ r .taken ≡ replicate 33 false ⌝ }
+{
     let none = Tried {
         outcome: journal::Outcome::Untried,
         corrected: 0,
     };
     Shelf {
-        taken: [false; 17],
-        tried: [none; 17],
-        envelopes: [0u8; 816],
+        taken: [false; 33],
+        tried: [none; 33],
+        envelopes: [0u8; 1584],
     }
 }
 
-// The first free slot; 17 where there is none.
-pub fn free_slot(taken: [bool; 17]) -> usize
-    ensures { λ r. ⌜ r ≤ 17 ⌝ }
+// The first free slot. There is one: the caller shows that fewer than 33 are taken.
+pub(crate) fn free_slot(taken: [bool; 33]) -> usize
+    requires { ⌜ used taken < 33 ⌝ }
+    ensures { λ r. ⌜ (r < 33) × (getD taken r false ≡ false) ⌝ }
 {
     let mut k = 0;
-    while k < 17 {
+    while k < 33 {
         if !taken[k] {
             return k;
         }
@@ -39,8 +45,8 @@ pub fn free_slot(taken: [bool; 17]) -> usize
     k
 }
 
-fn with_envelope(envelopes: [u8; 816], slot: usize, envelope: &[u8]) -> [u8; 816]
-    requires { ⌜ slot < 17 ⌝ ∗ ⌜ length (now envelope) ≡ 48 ⌝ }
+fn with_envelope(envelopes: [u8; 1584], slot: usize, envelope: &[u8]) -> [u8; 1584]
+    requires { ⌜ slot < 33 ⌝ ∗ ⌜ length (now envelope) ≡ 48 ⌝ }
 {
     let mut all = envelopes;
     for i in 0..48usize {
@@ -50,8 +56,9 @@ fn with_envelope(envelopes: [u8; 816], slot: usize, envelope: &[u8]) -> [u8; 816
 }
 
 // The shelf with a frame in a slot.
-pub fn with_frame(shelf: Shelf, slot: usize, tried: Tried, envelope: &[u8]) -> Shelf
-    requires { ⌜ slot < 17 ⌝ ∗ ⌜ length (now envelope) ≡ 48 ⌝ }
+pub(crate) fn with_frame(shelf: Shelf, slot: usize, tried: Tried, envelope: &[u8]) -> Shelf
+    requires { ⌜ slot < 33 ⌝ ∗ ⌜ length (now envelope) ≡ 48 ⌝ }
+    ensures { λ r. ⌜ r .taken ≡ set (shelf .taken) slot true ⌝ }
 {
     let mut taken = shelf.taken;
     taken[slot] = true;
@@ -66,22 +73,46 @@ pub fn with_frame(shelf: Shelf, slot: usize, tried: Tried, envelope: &[u8]) -> S
     }
 }
 
-// The shelf without the frame whose number the merger gave back.
-pub fn without(shelf: Shelf, free: Free) -> Shelf {
+// The slots with the one free again whose number the merger gave back.
+fn freed_slot(taken: [bool; 33], free: Free) -> [bool; 33]
+    requires { ⌜ Small free ⌝ }
+    ensures { λ r. ⌜ r ≡ cleared free taken ⌝ }
+{
     match free {
-        Free::Nothing => shelf,
+        Free::Nothing => taken,
         Free::Number(slot) => {
-            let mut taken = shelf.taken;
-            if slot < 17 {
-                taken[slot as usize] = false;
-            }
-            let tried = shelf.tried;
-            let envelopes = shelf.envelopes;
-            Shelf {
-                taken,
-                tried,
-                envelopes,
-            }
+            let mut next = taken;
+            next[slot as usize] = false;
+            next
         }
+    }
+}
+
+// The shelf without the frames whose numbers the merger gave back.
+pub(crate) fn without(shelf: Shelf, freed: Freed) -> Shelf
+    requires { ⌜ Small (freed .primary) ⌝ ∗ ⌜ Small (freed .alternate) ⌝ }
+    ensures { λ r. ⌜ r .taken ≡ cleared (freed .alternate) (cleared (freed .primary) (shelf .taken)) ⌝ }
+{
+    let first = freed.primary;
+    let second = freed.alternate;
+    let all = shelf.taken;
+    let one = freed_slot(all, first);
+    let taken = freed_slot(one, second);
+    let tried = shelf.tried;
+    let envelopes = shelf.envelopes;
+    Shelf {
+        taken,
+        tried,
+        envelopes,
+    }
+}
+
+// How many numbers a place gave back.
+pub(crate) fn how_many(free: Free) -> u64
+    ensures { λ r. ⌜ r ≡ countFree free ⌝ }
+{
+    match free {
+        Free::Nothing => 0,
+        Free::Number(_) => 1,
     }
 }

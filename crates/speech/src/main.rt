@@ -5,7 +5,7 @@ fn main() {
         return;
     }
     let mut table = [0u8; 188];
-    if table_file::from_argument(1, &mut table) {
+    if table_file::from_argument(1, 2, &mut table) {
         tasks::speak(0, &table);
     }
 }

@@ -1,1 +1,3 @@
 pub mod Fitting
+pub mod Giving
+pub mod Tallies

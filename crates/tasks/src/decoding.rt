@@ -1,4 +1,8 @@
 // What the hard decoder says of a frame, as the journal and the programs need it.
+ghost use mathlib.Core.Path.{_≡_};
+ghost use Prim.Native.Nat.{min};
+ghost use Rattle.trials.specs.Calls.{decodeAnswer};
+ghost use Rattle.tasks.specs.Tries.{triedBy};
 use journal::Outcome;
 use trials::Decoding;
 
@@ -9,11 +13,15 @@ pub struct Tried {
 }
 
 // A count as a byte. One that does not fit is more than the journal takes, and so is 255.
-pub fn byte_of(n: u32) -> u8 {
+pub(crate) fn byte_of(n: u32) -> u8
+    ensures { λ r. ⌜ r ≡ min n 255 ⌝ }
+{
     if n > 255 { 255 } else { n as u8 }
 }
 
-fn from_decoding(decoding: Decoding) -> Tried {
+fn from_decoding(decoding: Decoding) -> Tried
+    ensures { λ r. ⌜ r ≡ triedBy decoding ⌝ }
+{
     match decoding {
         Decoding::Accepted(_, corrected) => Tried {
             outcome: Outcome::Accepted,
@@ -26,14 +34,17 @@ fn from_decoding(decoding: Decoding) -> Tried {
     }
 }
 
-pub fn untried() -> Tried {
+pub(crate) fn untried() -> Tried {
     Tried {
         outcome: Outcome::Untried,
         corrected: 0,
     }
 }
 
-pub fn try_frame(table: &[u8], envelope: &[u8]) -> Tried {
+// What the hard decoder says of an envelope.
+pub fn try_frame(table: &[u8], envelope: &[u8]) -> Tried
+    ensures { λ r. ⌜ r ≡ triedBy (decodeAnswer (now (table .entry)) (now (envelope .entry)) .decoding) ⌝ }
+{
     let decoded = voice_frame::decode(table, envelope);
     let decoding = decoded.decoding;
     from_decoding(decoding)

@@ -1,13 +1,16 @@
 // A line for each frame and each gap, and the last line, on standard output.
+use crate::reception::Heard;
 use crate::reception::Next;
 use crate::reception::Reception;
+use crate::reception::closed;
+use crate::reception::has_ended;
 use crate::reception::opened;
 use crate::reception::receive;
 use journal::Earlier;
 use sync::Synchroniser;
 use sync_rules::Head;
 ghost use Rattle.sync.specs.View.{Valid};
-ghost use Rattle.tasks.specs.Receptions.{Ready};
+ghost use Rattle.tasks.specs.Receptions.{Ready, Told};
 
 fn say_frame(earlier: Earlier, head: Head) {
     lines::print(lines::gap_before(earlier, head.offset));
@@ -36,12 +39,14 @@ fn list_one(r: Reception) -> Reception
 }
 
 // The whole input. A proved loop has to end, and nothing says that the input does: the loop counts its turns down, from a number that no run uses up.
-pub fn list(fd: i32) {
+pub fn list(fd: i32) -> Heard
+    ensures { λ h. ⌜ Told h ⌝ }
+{
     let mut r = opened(fd);
     let mut turns = u64::MAX;
     while turns > 0 {
         r = list_one(r);
-        if r.ended {
+        if has_ended(r.more, r.given, r.count) {
             turns = 0;
         } else {
             turns -= 1;
@@ -49,4 +54,5 @@ pub fn list(fd: i32) {
     }
     let sync = r.sync;
     say_end(sync);
+    closed(r)
 }

@@ -1,17 +1,17 @@
 // Packed dibits from an open file, highest dibit first in a byte, through the synchroniser: its frames, one after the other.
-// A reception goes from call to call by value. `receive` gives a frame, or none yet, or says that the input has ended.
+// A reception goes from call to call by value. `receive` gives a frame, or none yet; `has_ended` says that there will be none.
 ghost use mathlib.Core.Path.{_≡_};
+ghost use mathlib.Core.Bool.{true};
 ghost use Prim.Native.Nat.{_+_, _*_, _≤_, _<_};
 ghost use lib.ListN.{length};
-ghost use Rattle.tasks.specs.Receptions.{Ready};
-use crate::recording::complain;
+ghost use Rattle.tasks.specs.Receptions.{Ready, Told, gives};
 use journal::Earlier;
 use sync::Push;
 use sync::Synchroniser;
 use sync_rules::Head;
 
 // The file, whether it may hold more, and the piece that was read last, with how many of its dibits are taken.
-// The synchroniser, the frames of its last push, and how many of them were given. The frame given last.
+// The synchroniser, the frames of its last push, and how many of them were given. How many frames were given in all, and the last of them.
 pub struct Reception {
     pub fd: i32,
     pub more: bool,
@@ -23,8 +23,15 @@ pub struct Reception {
     pub given: usize,
     pub heads: [Head; 3],
     pub room: [u8; 1296],
+    pub frames: u64,
     pub earlier: Earlier,
-    pub ended: bool,
+}
+
+// What is left of a reception when it ends: how many frames were given, whether the input was taken whole, and the synchroniser.
+pub struct Heard {
+    pub frames: u64,
+    pub whole: bool,
+    pub sync: Synchroniser,
 }
 
 pub enum Next {
@@ -41,8 +48,9 @@ pub struct Received {
 }
 
 // Nothing read yet.
-pub fn opened(fd: i32) -> Reception
-    ensures { λ r. ⌜ Ready r ⌝ }
+pub(crate) fn opened(fd: i32) -> Reception
+    ensures ready { λ r. ⌜ Ready r ⌝ }
+    ensures given { λ r. ⌜ r .frames ≡ 0 ⌝ }
 {
     let none = Head {
         offset: 0,
@@ -61,8 +69,8 @@ pub fn opened(fd: i32) -> Reception
         given: 0,
         heads: [none; 3],
         room: [0u8; 1296],
+        frames: 0,
         earlier: Earlier::Nothing,
-        ended: false,
     }
 }
 
@@ -77,11 +85,13 @@ fn envelope_of(room: [u8; 1296], k: usize) -> [u8; 48]
     envelope
 }
 
-// Frame k of the last push.
-fn give(r: Reception, k: usize) -> Received
-    requires { ⌜ Ready r ⌝ ∗ ⌜ k < 3 ⌝ }
-    ensures { λ s. ⌜ Ready (s .reception) ⌝ }
+// The next frame of the last push.
+fn give(r: Reception) -> Received
+    requires { ⌜ Ready r ⌝ ∗ ⌜ r .given < r .count ⌝ }
+    ensures ready { λ s. ⌜ Ready (s .reception) ⌝ }
+    ensures given { λ s. ⌜ s .reception .frames ≡ r .frames + gives (s .next) ⌝ }
 {
+    let k = r.given;
     let heads = r.heads;
     let head = heads[k];
     let room = r.room;
@@ -100,8 +110,8 @@ fn give(r: Reception, k: usize) -> Received
         given: k + 1,
         heads,
         room,
+        frames: r.frames + 1,
         earlier: Earlier::At(head.offset),
-        ended: false,
     };
     Received {
         next: Next::Frame(head),
@@ -116,7 +126,7 @@ fn goes_on(answer: Push) -> bool {
     match answer {
         Push::Taken => true,
         Push::Refused(refusal) => {
-            complain(refusal);
+            lines::print_error(lines::refusal_line(refusal));
             false
         }
     }
@@ -124,8 +134,9 @@ fn goes_on(answer: Push) -> bool {
 
 // The next dibits of the piece, up to a push that sends frames.
 fn feed(r: Reception) -> Reception
-    requires { ⌜ Ready r ⌝ }
-    ensures { λ s. ⌜ Ready s ⌝ }
+    requires { ⌜ Ready r ⌝ ∗ ⌜ r .count ≤ r .given ⌝ }
+    ensures ready { λ s. ⌜ Ready s ⌝ }
+    ensures given { λ s. ⌜ s .frames ≡ r .frames ⌝ }
 {
     let piece = r.piece;
     let size = r.size;
@@ -151,15 +162,16 @@ fn feed(r: Reception) -> Reception
         given: 0,
         heads,
         room,
+        frames: r.frames,
         earlier,
-        ended: !more,
     }
 }
 
 // The next piece of the file.
 fn refill(r: Reception) -> Reception
-    requires { ⌜ Ready r ⌝ }
-    ensures { λ s. ⌜ Ready s ⌝ }
+    requires { ⌜ Ready r ⌝ ∗ ⌜ r .count ≤ r .given ⌝ }
+    ensures ready { λ s. ⌜ Ready s ⌝ }
+    ensures given { λ s. ⌜ s .frames ≡ r .frames ⌝ }
 {
     let mut piece = io::buffer();
     let size = io::read_full(r.fd, &mut piece);
@@ -178,14 +190,15 @@ fn refill(r: Reception) -> Reception
         given: 0,
         heads,
         room,
+        frames: r.frames,
         earlier,
-        ended: size == 0,
     }
 }
 
 fn without_frame(r: Reception) -> Received
     requires { ⌜ Ready r ⌝ }
-    ensures { λ s. ⌜ Ready (s .reception) ⌝ }
+    ensures ready { λ s. ⌜ Ready (s .reception) ⌝ }
+    ensures given { λ s. ⌜ s .reception .frames ≡ r .frames + gives (s .next) ⌝ }
 {
     let earlier = r.earlier;
     Received {
@@ -197,18 +210,40 @@ fn without_frame(r: Reception) -> Received
 }
 
 // A frame that waits to be given; or else the file is read on, and there is none yet.
-pub fn receive(r: Reception) -> Received
+pub(crate) fn receive(r: Reception) -> Received
     requires { ⌜ Ready r ⌝ }
-    ensures { λ s. ⌜ Ready (s .reception) ⌝ }
+    ensures ready { λ s. ⌜ Ready (s .reception) ⌝ }
+    ensures given { λ s. ⌜ s .reception .frames ≡ r .frames + gives (s .next) ⌝ }
 {
-    let k = r.given;
-    if k < r.count {
-        if k < 3 {
-            return give(r, k);
-        }
+    if r.given < r.count {
+        return give(r);
     }
     if r.taken < 4 * r.size {
         return without_frame(feed(r));
     }
     without_frame(refill(r))
+}
+
+// Whether nothing more comes: the file has ended or a push was refused, and no frame waits.
+pub(crate) fn has_ended(more: bool, given: usize, count: usize) -> bool
+    ensures { λ r. ⌜ (r ≡ true → count ≤ given) ⌝ }
+{
+    if more {
+        return false;
+    }
+    count <= given
+}
+
+// What is left when it ends.
+pub(crate) fn closed(r: Reception) -> Heard
+    requires { ⌜ Ready r ⌝ }
+    ensures told { λ h. ⌜ Told h ⌝ }
+    ensures frames { λ h. ⌜ h .frames ≡ r .frames ⌝ }
+{
+    let sync = r.sync;
+    Heard {
+        frames: r.frames,
+        whole: has_ended(r.more, r.given, r.count),
+        sync,
+    }
 }

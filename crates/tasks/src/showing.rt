@@ -1,80 +1,90 @@
 // Prints a journal, a line for each record. The line is made by `lines::show_record`; this file reads, counts and prints.
+ghost use mathlib.Core.Path.{_≡_};
+ghost use Prim.Native.Nat.{_+_, _<_, _≤_, _^_};
 use lines::What;
+
+// How many records, frames and gaps were printed.
+pub struct Printed {
+    pub records: u64,
+    pub frames: u64,
+    pub gaps: u64,
+}
 
 // What was printed so far, and whether to go on.
 struct Tally {
     go: bool,
-    records: u64,
-    frames: u64,
-    gaps: u64,
+    printed: Printed,
 }
 
-pub fn more(n: u64) -> u64 {
-    std::num::wrapping_add_u64(n, 1)
-}
-
-fn counted(t: Tally, what: What) -> Tally {
+fn counted(p: Printed, what: What) -> Tally
+    requires { ⌜ p .records ≡ p .frames + p .gaps ⌝ ∗ ⌜ p .records + 1 < 2 ^ 64 ⌝ }
+    ensures sum { λ r. ⌜ r .printed .records ≡ r .printed .frames + r .printed .gaps ⌝ }
+    ensures few { λ r. ⌜ r .printed .records ≤ p .records + 1 ⌝ }
+{
     match what {
         What::AFrame => Tally {
             go: true,
-            records: more(t.records),
-            frames: more(t.frames),
-            gaps: t.gaps,
+            printed: Printed {
+                records: p.records + 1,
+                frames: p.frames + 1,
+                gaps: p.gaps,
+            },
         },
         What::AGap => Tally {
             go: true,
-            records: more(t.records),
-            frames: t.frames,
-            gaps: more(t.gaps),
+            printed: Printed {
+                records: p.records + 1,
+                frames: p.frames,
+                gaps: p.gaps + 1,
+            },
         },
         What::NoRecord => Tally {
             go: false,
-            records: t.records,
-            frames: t.frames,
-            gaps: t.gaps,
+            printed: p,
         },
     }
 }
 
-fn ended(t: Tally) -> Tally {
-    lines::print(lines::end_line(t.records, t.frames, t.gaps));
-    Tally {
-        go: false,
-        records: t.records,
-        frames: t.frames,
-        gaps: t.gaps,
-    }
-}
-
-// One record. A short one is read too: its length is refused.
-fn show_one(fd: i32, t: Tally) -> Tally {
+// One record: what the input still holds of it, where it ends within the record.
+fn show_one(fd: i32, p: Printed) -> Tally
+    requires { ⌜ p .records ≡ p .frames + p .gaps ⌝ ∗ ⌜ p .records + 1 < 2 ^ 64 ⌝ }
+    ensures sum { λ r. ⌜ r .printed .records ≡ r .printed .frames + r .printed .gaps ⌝ }
+    ensures few { λ r. ⌜ r .printed .records ≤ p .records + 1 ⌝ }
+{
     let mut record = [0u8; 64];
     let n = io::read_full(fd, &mut record);
     if n == 0 {
-        return ended(t);
+        lines::print(lines::end_line(p.records, p.frames, p.gaps));
+        return Tally {
+            go: false,
+            printed: p,
+        };
     }
-    let shown = lines::show_record(&record[..n], t.records);
+    let shown = lines::show_record(&record[..n], p.records);
     let line = shown.line;
     lines::print(line);
     let what = shown.what;
-    counted(t, what)
+    counted(p, what)
 }
 
 // The whole journal. A proved loop has to end, and nothing says that the input does: the loop counts its turns down, from a number that no run uses up.
-pub fn show(fd: i32) {
-    let mut t = Tally {
-        go: true,
+pub fn show(fd: i32) -> Printed
+    ensures { λ r. ⌜ r .records ≡ r .frames + r .gaps ⌝ }
+{
+    let mut p = Printed {
         records: 0,
         frames: 0,
         gaps: 0,
     };
     let mut turns = u64::MAX;
     while turns > 0 {
-        t = show_one(fd, t);
+        let t = show_one(fd, p);
+        p = t.printed;
         if t.go {
             turns -= 1;
         } else {
             turns = 0;
         }
     }
+    p
 }

@@ -1,16 +1,41 @@
--- `offer_all`: the merger stays valid.
+-- `offer_all`: each of the frames is handed in once.
 -- Assumes nothing.
-use Prim.Native.Nat.{_-_}
+use mathlib.Core.Path.{_≡_}
+use Prim.Native.Nat.{_+_, _-_, _^_, _≤_, _<_}
+use native.Mathlib.Omega.{arith}
+use lib.ListN.{length}
 use borrow.Author.Needs.{needs}
-use Rattle.merger.specs.States.{Valid}
+use Rattle.merging.specs.Accounts.{Accounted, toldOf}
 use Rattle.merging.proofs.offering.offer_all.Statement.{statement}
 use Rattle.merging.proofs.offering.offer_all.Tie as tie
 
 abbrev Inv-loop : tie.InvT-loop
-Inv-loop table stream count room heads work₀ k₀ work k = Valid (work .merger)
+Inv-loop table stream count room heads work₀ k₀ work k =
+    (k ≤ count) × (count ≤ 3) × (length room ≡ 1296) × Accounted work × (toldOf work ≡ toldOf work₀ + k) × (toldOf work₀ + 3 < 2 ^ 44)
 
 abbrev μ-loop : tie.MeasureT-loop
-μ-loop table stream count room heads work₀ k₀ work k = 3 - k
+μ-loop table stream count room heads work₀ k₀ work k = count - k
+
+loop-holds : tie.Need-loop-holds Inv-loop μ-loop
+loop-holds c =
+    let start = c .before .before in
+    (omega arith, start .pre .1 .1 .0, start .pre .1 .1 .1, start .pre .0, omega arith, start .pre .1 .0)
+
+offer-requires : tie.Need-offer-requires Inv-loop μ-loop
+offer-requires c κs =
+    let inv = c .before .before .before .loop .inv in
+    (inv .3, (omega (arith, inv .4, inv .5, inv .1, c .before .before .loop-test .taken), search needs))
+
+loop-again : tie.Need-loop-again Inv-loop μ-loop
+loop-again c =
+    let test = c .before .before .before in
+    let inv = test .before .loop .inv in
+    (omega (arith, test .loop-test .taken), inv .1, inv .2, c .offer .ensures .0, omega (arith, inv .4, c .offer .ensures .1), inv .5)
+
+returns : tie.Need-returns Inv-loop μ-loop
+returns c =
+    let inv = c .before .loop .inv in
+    (inv .3, omega (arith, inv .4, inv .0))
 
 pub offer-all-spec : {M : Type 1} → statement M
 offer-all-spec =
@@ -18,9 +43,17 @@ offer-all-spec =
     (tie.spec
     Inv-loop
     μ-loop
-    (λ c. search needs)
-    (λ c κs. search needs)
-    (λ c. search needs)
+    loop-holds
     (λ c. search needs)
     (λ c. search needs)
-    (λ c. search needs))
+    (λ c. search needs)
+    (λ c. search needs)
+    (λ c. search needs)
+    (λ c. search needs)
+    (λ c. search needs)
+    (λ c. search needs)
+    offer-requires
+    (λ c. search needs)
+    (λ c. search needs)
+    loop-again
+    returns)

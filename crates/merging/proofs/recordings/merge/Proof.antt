@@ -27,5 +27,4 @@ merge-spec =
     (λ c. omega arith)
     (λ c. search needs)
     (λ c κs. search needs)
-    (λ c κs. search needs)
-    (λ c. tt))
+    (λ c. search needs))

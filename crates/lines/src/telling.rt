@@ -1,0 +1,35 @@
+// What goes to standard error: a refusal by its number, and how many frames of two merged recordings are not in the journal.
+ghost use mathlib.Core.Path.{_≡_};
+ghost use Rattle.bits.specs.Refusals.{numberOf};
+ghost use Rattle.lines.specs.Text.{lineOf, refusalText, leftOutText};
+use crate::Line;
+use crate::building::empty;
+use crate::building::with_number;
+use crate::building::with_word;
+use bits::Refusal;
+use bits::number_of;
+use bits::wide;
+
+// A refusal by its number.
+pub fn refusal_line(refusal: Refusal) -> Line
+    ensures { λ r. ⌜ r ≡ lineOf (refusalText (numberOf refusal)) ⌝ }
+{
+    let l0 = empty();
+    let l1 = with_word(l0, b"refused");
+    let l2 = with_number(l1, wide(number_of(refusal)) as u64);
+    with_word(l2, b"\n")
+}
+
+// How many frames came late, found their place taken, or were passed over.
+pub fn left_out_line(late: u64, double: u64, passed: u64) -> Line
+    ensures { λ r. ⌜ r ≡ lineOf (leftOutText late double passed) ⌝ }
+{
+    let l0 = empty();
+    let l1 = with_word(l0, b"late");
+    let l2 = with_number(l1, late);
+    let l3 = with_word(l2, b" double");
+    let l4 = with_number(l3, double);
+    let l5 = with_word(l4, b" passed over");
+    let l6 = with_number(l5, passed);
+    with_word(l6, b"\n")
+}

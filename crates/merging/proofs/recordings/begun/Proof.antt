@@ -1,0 +1,34 @@
+-- `begun`: nothing is read, nothing waits.
+-- Assumes nothing.
+use mathlib.Core.Path.{_≡_, ap, _∙_}
+use native.Mathlib.Omega.{arith}
+use lib.ListN.{length}
+use borrow.Author.Needs.{needs}
+use Rattle.merger.specs.Merging.{View, viewOf}
+use Rattle.tasks.proofs.Giving.{reached-start, none-yet}
+use Rattle.merging.proofs.Shelving.{empty-shelved, none-used}
+use Rattle.merging.proofs.recordings.begun.Statement.{statement}
+use Rattle.merging.proofs.recordings.begun.Tie as tie
+
+returns : tie.Need-returns
+returns c =
+    let m = c .before in
+    let second = m .before in
+    let first = second .before in
+    let none = ap (λ (v : View). v .pending) (m .new3 .ensures .0) in
+    let shelved = empty-shelved (c .empty .result .taken) (viewOf (m .new3 .result) .pending) (c .empty .ensures) none in
+    record {
+      first = record { valid = first .new .ensures .0; reached = reached-start _ (first .new .ensures .1) };
+      second = record { valid = second .new2 .ensures .0; reached = reached-start _ (second .new2 .ensures .1) };
+      work = record {
+        valid = m .new3 .ensures .1;
+        slots = ap length (c .empty .ensures);
+        shelved = shelved;
+        balance = omega (arith, none-used (c .empty .result .taken) (viewOf (m .new3 .result) .pending) shelved (ap length none));
+      };
+      told = omega (arith, none-yet _ (first .new .ensures .1), none-yet _ (second .new2 .ensures .1));
+    }
+
+pub begun-spec : {M : Type 1} → statement M
+begun-spec =
+    tie.close (tie.spec (λ c κs. search needs) (λ c κs. search needs) (λ c κs. search needs) (λ c κs. search needs) returns)

@@ -1,0 +1,28 @@
+-- `finished`: after the flush nothing waits.
+-- Assumes nothing.
+use mathlib.Core.Path.{refl}
+use native.Mathlib.Omega.{arith}
+use borrow.Author.Needs.{needs}
+use Rattle.merging.proofs.Takings.{none-waits, frames-few}
+use Rattle.merging.proofs.recordings.finished.Statement.{statement}
+use Rattle.merging.proofs.recordings.finished.Tie as tie
+
+release-all-requires : tie.Need-release-all-requires
+release-all-requires c κs =
+    let g = c .before .pre in
+    (g .work, omega (arith, g .told, frames-few _ (g .first), frames-few _ (g .second)))
+
+returns : tie.Need-returns
+returns c =
+    let call = c .before .before .before in
+    let g = call .before .before .pre in
+    let after = call .release-all .ensures in
+    record {
+      first = g .first;
+      second = g .second;
+      frames = omega (arith, g .told, after .1 .0);
+      kept = omega (arith, after .0 .balance, none-waits _ (after .0) (after .1 .1 refl));
+    }
+
+pub finished-spec : {M : Type 1} → statement M
+finished-spec = tie.close (tie.spec release-all-requires (λ c κs. search needs) returns)

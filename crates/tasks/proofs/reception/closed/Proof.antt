@@ -1,0 +1,25 @@
+-- `closed`: where nothing more comes, each frame that went out was given.
+-- Assumes nothing.
+use mathlib.Core.Path.{refl}
+use Prim.Native.Nat.{_≤_}
+use native.Mathlib.Omega.{arith}
+use borrow.Author.Needs.{needs}
+use Rattle.tasks.proofs.reception.closed.Statement.{statement}
+use Rattle.tasks.proofs.reception.closed.Tie as tie
+
+returns : tie.Need-returns
+returns c =
+    let start = c .before .before in
+    let r = start .args .r in
+    let g = start .pre in (
+      record {
+        valid = g .valid;
+        reached = g .reached;
+        few = omega (arith, g .balance, g .waiting);
+        all = λ e. let none : r .count ≤ r .given = c .has-ended .ensures e in omega (arith, g .balance, g .waiting, none);
+      },
+      refl,
+    )
+
+pub closed-spec : {M : Type 1} → statement M
+closed-spec = tie.close (tie.spec (λ c κs. search needs) returns)

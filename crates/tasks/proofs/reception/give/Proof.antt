@@ -1,0 +1,29 @@
+-- `give`: one frame more is given, and one less waits.
+-- Assumes nothing.
+use mathlib.Core.Path.{refl}
+use native.Mathlib.Omega.{arith}
+use borrow.Author.Needs.{needs}
+use Rattle.tasks.proofs.reception.give.Statement.{statement}
+use Rattle.tasks.proofs.reception.give.Tie as tie
+
+returns : tie.Need-returns
+returns c =
+    let start = c .before .before .before .before .before .before .before .before in
+    let g = start .pre .0 in (
+      record {
+        size = g .size;
+        few = g .few;
+        taken = g .taken;
+        valid = g .valid;
+        reached = g .reached;
+        waiting = omega (arith, start .pre .1);
+        three = g .three;
+        balance = omega (arith, g .balance);
+      },
+      refl,
+    )
+
+pub give-spec : {M : Type 1} → statement M
+give-spec =
+    tie.close
+    (tie.spec (λ c. search needs) (λ c. search needs) (λ c κs. search needs) (λ c. search needs) (λ c. search needs) returns)
