@@ -42,7 +42,7 @@ fn short_messages(list: &mut List) {
 /// the expectation is document 01's.
 fn all_field_pairs(list: &mut List, count: u64) {
     let field = Galois::get();
-    let step = (65_536 * 2 / count.max(1)).max(1) as usize;
+    let step = (65_536 * 4 / count.max(1)).max(1) as usize;
     for pair in (0..65_536usize).step_by(step) {
         let (a, b) = ((pair / 256) as u8, (pair % 256) as u8);
         let quotient = if b == 0 { 0 } else { field.div(a, b) };

@@ -88,6 +88,12 @@ impl List {
         put(expected);
         *self.tally.entry(branch.to_string()).or_default() += 1;
     }
+    /// Beside the cases: what a case met next to a limit.
+    pub fn met(&mut self, kind: &str, met: &[(&str, u32)]) {
+        for (name, count) in met {
+            *self.tally.entry(format!("limits of {kind}: {name} {count}")).or_default() += 1;
+        }
+    }
     pub fn cases(&self) -> u64 {
         self.cases
     }

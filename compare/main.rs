@@ -6,6 +6,7 @@ mod coding_cases;
 mod frame;
 mod list;
 mod merger_cases;
+mod soft_cases;
 mod sync_cases;
 mod tail_cases;
 mod voice_cases;
@@ -24,8 +25,7 @@ fn main() {
     let mut random = Random::new(seed);
     let mut list = List::new();
     for (name, hundredths, write) in PARTS {
-        // Soft decoding only where it is asked for: `replay` has no kind 11 yet.
-        if (only.is_empty() && *name != "soft") || only.contains(name) {
+        if only.is_empty() || only.contains(name) {
             write(&mut list, &mut random, count * hundredths / 100);
         }
     }
@@ -37,9 +37,9 @@ type Part = (&'static str, u64, fn(&mut List, &mut Random, u64));
 /// The parts of a list and their shares of the count. A push of the synchroniser is a case of its own, so most cases are pushes.
 const PARTS: &[Part] = &[
     ("coding", 14, coding_cases::write),
-    ("tail", 20, tail_cases::write),
-    ("voice", 4, voice_cases::write),
-    ("soft", 2, voice_cases::write_soft),
-    ("sync", 40, sync_cases::write),
+    ("tail", 18, tail_cases::write),
+    ("voice", 8, voice_cases::write),
+    ("soft", 4, soft_cases::write),
+    ("sync", 36, sync_cases::write),
     ("merger", 20, merger_cases::write),
 ];

@@ -66,6 +66,10 @@ impl Script {
             (_, Some(last)) => last + [192, 193, 191 + random.below(4), 384 + random.below(400), 6_140 + random.below(8), 570 + random.below(12)][random.below(6) as usize],
         };
         let base = if random.once_in(20) { base.saturating_sub(random.below(3_000)) } else { base };
+        // Where the places are full: late comes before refusal 9.
+        if let (16, Some(last), true) = (self.merger.positions(), self.merger.last_released(), random.once_in(8)) {
+            return last + random.below(192);
+        }
         match (random.below(400), self.merger.first_key()) {
             (0, _) => u64::MAX - random.below(3),
             (1 | 2, _) => LAST_OFFSET + random.below(3),
@@ -94,13 +98,15 @@ impl Script {
 
     fn pushed(&mut self, stream: u64, offset: u64, yes: bool, matched: bool, errors: u8) -> (u8, &'static str) {
         if stream > 1 {
-            return (107, "merger push: refused 7 (ours)");
+            let before = offset > LAST_OFFSET;
+            return (107, if before { "merger push: refused 7 before 8 (ours)" } else { "merger push: refused 7 (ours)" });
         }
         if offset > LAST_OFFSET {
             return (108, "merger push: refused 8 (ours)");
         }
         let late = self.merger.last_released().is_some_and(|last| offset + 191 < last + 384);
-        if !late && self.merger.positions() == 16 && !self.merger.has_key_near(offset) {
+        let full = self.merger.positions() == 16 && !self.merger.has_key_near(offset);
+        if !late && full {
             return (109, "merger push: refused 9 (ours)");
         }
         let before = self.merger.held();
@@ -113,6 +119,7 @@ impl Script {
         match (self.merger.held() > before, late) {
             (true, _) => (0, "merger push: kept"),
             (_, false) => (1, "merger push: double"),
+            _ if full => (2, "merger push: late, with 16 positions pending"),
             _ => (2, "merger push: late"),
         }
     }

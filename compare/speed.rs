@@ -37,7 +37,7 @@ fn size(operation: &str) -> usize {
         "crc16" => 6,
         "repair" => 14,
         "encode" => 20,
-        "soft" => 48 + 384,
+        "soft" | "soft-refused" => 48 + 384,
         _ => 1,
     }
 }
@@ -67,25 +67,32 @@ fn make(operation: &str, n: usize) -> Vec<u8> {
                     out.extend(envelope);
                 }
             }
-            "decode-refused" => {
-                let mut envelope = scramble(&random.bytes(42).try_into().unwrap());
-                let mut word = descramble(&envelope);
-                (word[32], word[33]) = (0x80, 0);
-                envelope = scramble(&word);
-                out.extend(envelope);
-            }
+            "decode-refused" => out.extend(refused(&mut random)),
+            // What the hard stages refuse and soft decoding accepts.
             "soft" => {
                 let envelope = damaged(&mut random, &clean, 20);
-                if decode(&envelope).is_none() {
-                    let reliabilities: Vec<u8> = (0..384).map(|bit| if (envelope[bit / 8] ^ clean[bit / 8]) >> (7 - bit % 8) & 1 == 1 { 20 } else { 200 }).collect();
+                let wrong = |bit: usize| (envelope[bit / 8] ^ clean[bit / 8]) >> (7 - bit % 8) & 1 == 1;
+                let reliabilities: Vec<u8> = (0..384).map(|bit| if wrong(bit) { 20 } else { 200 }).collect();
+                if decode(&envelope).is_none() && decode_soft(&envelope, &reliabilities).is_some() {
                     out.extend(envelope);
                     out.extend(reliabilities);
                 }
+            }
+            "soft-refused" => {
+                out.extend(refused(&mut random));
+                out.extend(random.bytes(384));
             }
             _ => out.extend(random.bytes(size(operation))),
         }
     }
     out
+}
+
+/// An envelope of a word of chance with a valid mode: every hard stage is tried, and refuses.
+fn refused(random: &mut Random) -> [u8; 48] {
+    let mut word: [u8; 42] = random.bytes(42).try_into().unwrap();
+    (word[32], word[33]) = (0x80, 0);
+    scramble(&word)
 }
 
 /// An envelope with some coded bits wrong.
@@ -138,7 +145,7 @@ fn one(operation: &str, x: &[u8]) -> u64 {
             tail[0] as u64
         }
         "encode" => encode(x.try_into().unwrap(), false)[2] as u64,
-        "soft" => ends(decode_soft(envelope(), &x[48..])),
+        "soft" | "soft-refused" => ends(decode_soft(envelope(), &x[48..])),
         _ => ends(decode(envelope())),
     }
 }

@@ -275,10 +275,10 @@ fn answer(synchroniser: &Synchronizer, taken: u32, sent: &[Frame]) -> Vec<u8> {
         out.extend(&frame.confidence);
     }
     out.push(synchroniser.locked as u8);
-    // The slips, and those of them to a later symbol: the net slip is two bits for each of these less two for each other.
-    let later = (synchroniser.slips as i64 + synchroniser.net_slip() / 2) / 2;
     out.extend((synchroniser.slips as u32).to_be_bytes());
-    out.extend((later as u32).to_be_bytes());
+    let net = synchroniser.net_slip();
+    out.push((net < 0) as u8);
+    out.extend((net.unsigned_abs() as u32).to_be_bytes());
     out.extend((synchroniser.frames as u32).to_be_bytes());
     out.extend((synchroniser.synchronized_frames as u32).to_be_bytes());
     out.extend((synchroniser.pending_bits() as u16).to_be_bytes());

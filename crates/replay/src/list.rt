@@ -26,7 +26,7 @@ fn no_good() -> Case
 }
 
 // The case that begins at `at`; of kind 0 where it is cut off, or where its input or its answer is longer than 4,000 bytes.
-pub fn case_at(window: &[u8], at: usize) -> Case
+pub(crate) fn case_at(window: &[u8], at: usize) -> Case
     ensures { λ r. ⌜ (r .input ≤ r .middle) × (r .middle ≤ length (now (window .entry))) × (r .expected ≤ r .next) × (r .next ≤ length (now (window .entry))) ⌝ }
 {
     let end = window.len();
@@ -75,7 +75,7 @@ fn move_front(window: &mut [u8], at: usize, end: usize)
 }
 
 // Moves what is left to the front and reads behind it; answers the new end.
-pub fn filled(window: &mut [u8], at: usize, end: usize) -> usize
+pub(crate) fn filled(window: &mut [u8], at: usize, end: usize) -> usize
     requires { ⌜ at ≤ end ⌝ ∗ ⌜ end ≤ length (now window) ⌝ }
 {
     move_front(&mut *window, at, end);
@@ -85,11 +85,11 @@ pub fn filled(window: &mut [u8], at: usize, end: usize) -> usize
 }
 
 // Whether an answer of that size is the expected one.
-pub fn same(out: &[u8; 2048], size: usize, expected: &[u8]) -> bool {
+pub(crate) fn same(out: &[u8], size: usize, expected: &[u8]) -> bool {
     if size != expected.len() {
         return false;
     }
-    if 2048 < size {
+    if out.len() < size {
         return false;
     }
     let mut i = 0;

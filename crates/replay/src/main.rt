@@ -1,5 +1,5 @@
 // Runs a case list from standard input over the libraries and says where an answer is not the expected one. docs/REPLAY.md has the list's format.
-// list.rt reads the list, tally.rt counts, input.rt and output.rt read and write numbers, *_cases.rt run the cases of their kinds, report.rt prints.
+// list.rt reads the list, tally.rt counts, *_cases.rt run the cases of their kinds by the crates `coded_cases` and `stream_cases`, report.rt prints.
 ghost use Rattle.sync.specs.View as state;
 ghost use Rattle.merger.specs.States as states;
 use list::filled;
@@ -7,15 +7,11 @@ use merger::Merger;
 use sync::Synchroniser;
 use tally::Tally;
 
-mod coding_cases;
-mod input;
 mod list;
 mod merger_cases;
-mod output;
 mod plain_cases;
 mod report;
 mod sync_cases;
-mod tail_cases;
 mod tally;
 mod voice_cases;
 
@@ -28,13 +24,19 @@ struct Replay {
 }
 
 // The kinds below the synchroniser.
-fn coded(window: &[u8], table: &mut [u8], t: Tally, size: usize) -> voice_cases::Ran {
-    let plain = plain_cases::run(window, t);
-    voice_cases::run(window, table, plain, size)
+fn coded(
+    window: &[u8],
+    table: &mut [u8],
+    out: &mut [u8],
+    t: Tally,
+    size: usize,
+) -> voice_cases::Ran {
+    let plain = plain_cases::run(window, &mut *out, t);
+    voice_cases::run(window, table, out, plain, size)
 }
 
 // The cases of a window, as far as they are whole and the kinds come in the order of the runs.
-fn run(window: &[u8], table: &mut [u8], room: &mut [u8], r: Replay) -> Replay
+fn run(window: &[u8], table: &mut [u8], room: &mut [u8], out: &mut [u8], r: Replay) -> Replay
     requires { ⌜ state.Valid (r .sync) ⌝ ∗ ⌜ states.Valid (r .merger) ⌝ }
     ensures { λ q. ⌜ state.Valid (q .sync) ⌝ }
     ensures { λ q. ⌜ states.Valid (q .merger) ⌝ }
@@ -42,12 +44,12 @@ fn run(window: &[u8], table: &mut [u8], room: &mut [u8], r: Replay) -> Replay
     let t = r.tally;
     let s = r.sync;
     let m = r.merger;
-    let voice = coded(window, table, t, r.table);
+    let voice = coded(window, table, &mut *out, t, r.table);
     let one = voice.tally;
-    let two = sync_cases::run(window, room, one, s);
+    let two = sync_cases::run(window, room, &mut *out, one, s);
     let three = two.tally;
     let sync = two.sync;
-    let last = merger_cases::run(window, three, m);
+    let last = merger_cases::run(window, out, three, m);
     let tally = last.tally;
     let merger = last.merger;
     Replay {
@@ -105,7 +107,14 @@ struct Turned {
 }
 
 // Fills the window up and runs its cases.
-fn turn(window: &mut [u8], table: &mut [u8], room: &mut [u8], r: Replay, before: usize) -> Turned
+fn turn(
+    window: &mut [u8],
+    table: &mut [u8],
+    room: &mut [u8],
+    out: &mut [u8],
+    r: Replay,
+    before: usize,
+) -> Turned
     requires { ⌜ state.Valid (r .sync) ⌝ ∗ ⌜ states.Valid (r .merger) ⌝ }
     ensures { λ q. ⌜ state.Valid (q .replay .sync) ⌝ }
     ensures { λ q. ⌜ states.Valid (q .replay .merger) ⌝ }
@@ -134,7 +143,7 @@ fn turn(window: &mut [u8], table: &mut [u8], room: &mut [u8], r: Replay, before:
             going: false,
         };
     }
-    let replay = run(&window[0..end], table, room, at_start(r));
+    let replay = run(&window[0..end], table, room, out, at_start(r));
     let new = replay.tally;
     Turned {
         replay,
@@ -144,7 +153,7 @@ fn turn(window: &mut [u8], table: &mut [u8], room: &mut [u8], r: Replay, before:
 }
 
 // A proved loop has to end, and nothing says that the input does: the turns are counted down, from a number that no run uses up.
-fn replayed(window: &mut [u8], table: &mut [u8], room: &mut [u8], start: Replay)
+fn replayed(window: &mut [u8], table: &mut [u8], room: &mut [u8], out: &mut [u8], start: Replay)
     requires { ⌜ state.Valid (start .sync) ⌝ ∗ ⌜ states.Valid (start .merger) ⌝ }
 {
     let mut r = start;
@@ -152,7 +161,7 @@ fn replayed(window: &mut [u8], table: &mut [u8], room: &mut [u8], start: Replay)
     let mut turns = u64::MAX;
     while 0 < turns {
         turns -= 1;
-        let s = turn(&mut *window, &mut *table, &mut *room, r, end);
+        let s = turn(&mut *window, &mut *table, &mut *room, &mut *out, r, end);
         r = s.replay;
         end = s.end;
         if !s.going {
@@ -165,6 +174,7 @@ fn main() {
     let mut window = io::large_buffer();
     let mut table = [0u8; 256];
     let mut room = [0u8; 1296];
+    let mut out = [0u8; 2048];
     let tally = Tally {
         at: 0,
         cases: 0,
@@ -177,6 +187,7 @@ fn main() {
         &mut window,
         &mut table,
         &mut room,
+        &mut out,
         Replay {
             tally,
             table: 0,

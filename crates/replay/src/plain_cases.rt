@@ -1,10 +1,8 @@
 // The kinds that need nothing from the cases before.
-use crate::coding_cases;
 use crate::list::case_at;
-use crate::output::no_case;
-use crate::tail_cases;
 use crate::tally::Tally;
 use crate::tally::judged;
+use case_bytes::no_case;
 
 fn is_kind(kind: u8) -> bool {
     match kind {
@@ -13,22 +11,21 @@ fn is_kind(kind: u8) -> bool {
     }
 }
 
-fn answer(kind: u8, input: &[u8], out: &mut [u8; 2048]) -> usize {
+fn answer(kind: u8, input: &[u8], out: &mut [u8]) -> usize {
     match kind {
-        1 => coding_cases::crc(input, out),
-        2 => coding_cases::scrambled(input, out),
-        3 => coding_cases::descrambled(input, out),
-        4 => coding_cases::field_pair(input, out),
-        5 => tail_cases::made(input, out),
-        6 => tail_cases::repaired(false, input, out),
-        7 => tail_cases::repaired(true, input, out),
+        1 => coded_cases::crc(input, out),
+        2 => coded_cases::scrambled(input, out),
+        3 => coded_cases::descrambled(input, out),
+        4 => coded_cases::field_pair(input, out),
+        5 => coded_cases::made(input, out),
+        6 => coded_cases::repaired(false, input, out),
+        7 => coded_cases::repaired(true, input, out),
         _ => no_case(),
     }
 }
 
 // Runs cases as long as they are of these kinds. A case has five bytes at least, so the turns suffice.
-pub fn run(window: &[u8], start: Tally) -> Tally {
-    let mut out = [0u8; 2048];
+pub(crate) fn run(window: &[u8], out: &mut [u8], start: Tally) -> Tally {
     let mut t = start;
     let mut turns = window.len();
     while 0 < turns {
@@ -42,8 +39,8 @@ pub fn run(window: &[u8], start: Tally) -> Tally {
         }
         let from = c.input;
         let to = c.middle;
-        let size = answer(c.kind, &window[from..to], &mut out);
-        t = judged(t, window, c, &out, size);
+        let size = answer(c.kind, &window[from..to], &mut *out);
+        t = judged(t, window, c, &*out, size);
     }
     t
 }

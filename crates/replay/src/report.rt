@@ -8,15 +8,11 @@ fn print_all_hex(bytes: &[u8]) {
     }
 }
 
-fn print_answer(out: &[u8; 2048], size: usize) {
-    if 2048 < size {
+fn print_answer(out: &[u8], size: usize) {
+    if out.len() < size {
         return;
     }
-    let mut i = 0;
-    while i < size {
-        io::print_hex(1, bits::wide(out[i]) as u64, 2);
-        i += 1;
-    }
+    print_all_hex(&out[0..size]);
 }
 
 fn print_number(word: &[u8], n: u64) {
@@ -24,7 +20,7 @@ fn print_number(word: &[u8], n: u64) {
     io::print_decimal(1, n);
 }
 
-pub fn difference(number: u64, kind: u8, expected: &[u8], out: &[u8; 2048], size: usize) {
+pub(crate) fn difference(number: u64, kind: u8, expected: &[u8], out: &[u8], size: usize) {
     print_number(b"difference ", number);
     print_number(b" ", bits::wide(kind) as u64);
     io::write_all(1, b" expected ");
@@ -34,12 +30,12 @@ pub fn difference(number: u64, kind: u8, expected: &[u8], out: &[u8; 2048], size
     io::write_all(1, b"\n");
 }
 
-pub fn bad_list(number: u64) {
+pub(crate) fn bad_list(number: u64) {
     print_number(b"bad list at case ", number);
     io::write_all(1, b"\n");
 }
 
-pub fn counts(cases: u64, differences: u64) {
+pub(crate) fn counts(cases: u64, differences: u64) {
     print_number(b"cases ", cases);
     print_number(b" differences ", differences);
     io::write_all(1, b"\n");

@@ -3,8 +3,8 @@ ghost use Prim.Native.Nat.{_≤_};
 ghost use lib.ListN.{length};
 use crate::list::Case;
 use crate::list::same;
-use crate::output::no_case;
 use crate::report;
+use case_bytes::no_case;
 
 // Where in the window the next case begins, the cases run, how many differed, and whether the last one's input did not fit its kind.
 pub struct Tally {
@@ -15,7 +15,7 @@ pub struct Tally {
 }
 
 // The tally after a case, whose answer has that size. The first ten differences are printed.
-pub fn judged(t: Tally, window: &[u8], c: Case, out: &[u8; 2048], size: usize) -> Tally
+pub(crate) fn judged(t: Tally, window: &[u8], c: Case, out: &[u8], size: usize) -> Tally
     requires { ⌜ c .expected ≤ c .next ⌝ ∗ ⌜ c .next ≤ length (now window) ⌝ }
 {
     let cases = std::num::wrapping_add_u64(t.cases, 1);

@@ -1,21 +1,14 @@
-// Kinds 8 to 10: the table in force, encoding and decoding.
+// Kinds 8 to 11: the table in force, encoding, hard and soft decoding.
 ghost use Prim.Native.Nat.{_≤_};
 ghost use lib.ListN.{length};
-use crate::coding_cases::status;
 use crate::list::case_at;
-use crate::output::no_case;
-use crate::output::put;
-use crate::output::put_all;
-use crate::output::put_number;
 use crate::tally::Tally;
 use crate::tally::judged;
-use bits::Refusal;
-use trials::Decoded;
-use trials::Decoding;
+use case_bytes::no_case;
 
 fn is_kind(kind: u8) -> bool {
     match kind {
-        8 | 9 | 10 => true,
+        8 | 9 | 10 | 11 => true,
         _ => false,
     }
 }
@@ -37,7 +30,7 @@ struct Tabled {
     size: usize,
 }
 
-fn new_table(table: &mut [u8], bytes: &[u8], out: &mut [u8; 2048]) -> Tabled {
+fn new_table(table: &mut [u8], bytes: &[u8], out: &mut [u8]) -> Tabled {
     if table.len() < bytes.len() {
         return Tabled {
             answer: no_case(),
@@ -45,73 +38,34 @@ fn new_table(table: &mut [u8], bytes: &[u8], out: &mut [u8; 2048]) -> Tabled {
         };
     }
     kept(table, bytes);
-    if protected::admitted(bytes) {
-        return Tabled {
-            answer: put(out, 0, 0),
-            size: bytes.len(),
-        };
-    }
     Tabled {
-        answer: put(out, 0, bits::number_of(Refusal::Table)),
+        answer: coded_cases::table(bytes, out),
         size: bytes.len(),
     }
 }
 
-// A flag and a payload.
-fn encoded(table: &[u8], input: &[u8], out: &mut [u8; 2048]) -> usize {
-    if input.len() == 0 {
-        return no_case();
-    }
-    let mut envelope = [0u8; 48];
-    let said = status(voice_frame::encode(table, &input[1..], input[0] == 1, &mut envelope));
-    let to = put(&mut *out, 0, said);
-    if said != 0 {
-        return to;
-    }
-    put_all(out, to, &envelope)
-}
-
-fn put_payload(out: &mut [u8; 2048], from: usize, payload: &[u8; 20]) -> usize {
-    let mut to = from;
-    let mut i = 0;
-    while i < 20 {
-        to = put(&mut *out, to, payload[i]);
-        i += 1;
-    }
-    to
-}
-
-fn put_decoded(out: &mut [u8; 2048], d: Decoded) -> usize {
-    let decoding = d.decoding;
-    let payload = d.payload;
-    match decoding {
-        Decoding::Accepted(_, corrected) => {
-            let a = put(&mut *out, 0, 0);
-            let b = put_number(&mut *out, a, corrected as u64, 1);
-            put_payload(out, b, &payload)
-        }
-        Decoding::Refused(refusal) => put(out, 0, bits::number_of(refusal)),
+fn with_table(kind: u8, table: &[u8], input: &[u8], out: &mut [u8]) -> usize {
+    match kind {
+        9 => coded_cases::encoded(table, input, out),
+        10 => coded_cases::decoded(table, input, out),
+        _ => coded_cases::softly_decoded(table, input, out),
     }
 }
 
 // A case by its kind, of a table that has `size` bytes.
-fn answer(kind: u8, table: &mut [u8], size: usize, input: &[u8], out: &mut [u8; 2048]) -> Tabled {
+fn answer(kind: u8, table: &mut [u8], size: usize, input: &[u8], out: &mut [u8]) -> Tabled {
     if table.len() < size {
         return Tabled {
             answer: no_case(),
             size: 0,
         };
     }
-    match kind {
-        8 => new_table(table, input, out),
-        9 => Tabled {
-            answer: encoded(&table[0..size], input, out),
-            size,
-        },
-        _ => Tabled {
-            answer: put_decoded(out, voice_frame::decode(&table[0..size], input)),
-            size,
-        },
+    if kind == 8 {
+        return new_table(table, input, out);
+    }
+    Tabled {
+        answer: with_table(kind, &table[0..size], input, out),
+        size,
     }
 }
 
@@ -122,8 +76,13 @@ pub struct Ran {
 }
 
 // Runs cases as long as they are of these kinds; the table in force goes on from case to case.
-pub fn run(window: &[u8], table: &mut [u8], start: Tally, before: usize) -> Ran {
-    let mut out = [0u8; 2048];
+pub(crate) fn run(
+    window: &[u8],
+    table: &mut [u8],
+    out: &mut [u8],
+    start: Tally,
+    before: usize,
+) -> Ran {
     let mut t = start;
     let mut size = before;
     let mut turns = window.len();
@@ -138,9 +97,9 @@ pub fn run(window: &[u8], table: &mut [u8], start: Tally, before: usize) -> Ran 
         }
         let from = c.input;
         let to = c.middle;
-        let after = answer(c.kind, &mut *table, size, &window[from..to], &mut out);
+        let after = answer(c.kind, &mut *table, size, &window[from..to], &mut *out);
         size = after.size;
-        t = judged(t, window, c, &out, after.answer);
+        t = judged(t, window, c, &*out, after.answer);
     }
     Ran { tally: t, size }
 }

@@ -1,12 +1,13 @@
 -- `run` ends: the turns are counted down.
 -- Assumes nothing.
 use mathlib.Core.Path.{_≡_}
+use lib.ListN.{length}
 use borrow.Author.Needs.{needs}
 use Rattle.replay.proofs.plain_cases.run.Statement.{statement}
 use Rattle.replay.proofs.plain_cases.run.Tie as tie
 
 abbrev Inv-loop : tie.InvT-loop
-Inv-loop window out₀ t₀ turns₀ out t turns = turns ≡ turns
+Inv-loop window out₀ t₀ turns₀ out t turns = length out ≡ length out₀
 
 abbrev μ-loop : tie.MeasureT-loop
 μ-loop window out₀ t₀ turns₀ out t turns = turns
@@ -21,13 +22,16 @@ run-spec =
     (λ c. search needs)
     (λ c κs. search needs)
     (λ c. search needs)
-    (λ c κs. search needs)
-    (λ c. search needs)
-    (λ c. search needs)
-    (λ c. search needs)
     (λ c. search needs)
     (λ c κs. search needs)
+    (λ c. search needs)
+    (λ c. search needs)
+    (λ c. search needs)
+    (λ c. search needs)
+    (λ c. search needs)
     (λ c κs. search needs)
+    (λ c κs. search needs)
+    (λ c. search needs)
     (λ c. search needs)
     (λ c. search needs)
     (λ c. search needs))

@@ -1,15 +1,14 @@
 -- `run` keeps the synchroniser valid, and ends: the turns are counted down.
 -- Assumes nothing.
-use Prim.Native.Nat.{_≤_}
+use Rattle.sync.specs.View.{Valid}
 use mathlib.Core.Path.{_≡_}
 use lib.ListN.{length}
-use Rattle.sync.specs.View.{Valid}
 use borrow.Author.Needs.{needs}
 use Rattle.replay.proofs.sync_cases.run.Statement.{statement}
 use Rattle.replay.proofs.sync_cases.run.Tie as tie
 
 abbrev Inv-loop : tie.InvT-loop
-Inv-loop window room₀ out₀ t₀ sync₀ turns₀ room out t sync turns = Valid sync × (length room ≡ length room₀)
+Inv-loop window room₀ out₀ t₀ sync₀ turns₀ room out t sync turns = Valid sync × (length room ≡ length room₀) × (length out ≡ length out₀)
 
 abbrev μ-loop : tie.MeasureT-loop
 μ-loop window room₀ out₀ t₀ sync₀ turns₀ room out t sync turns = turns
@@ -25,14 +24,17 @@ run-spec =
     (λ c κs. search needs)
     (λ c. search needs)
     (λ c. search needs)
-    (λ c κs. search needs)
-    (λ c. search needs)
-    (λ c. search needs)
-    (λ c. search needs)
-    (λ c. search needs)
     (λ c. search needs)
     (λ c κs. search needs)
+    (λ c. search needs)
+    (λ c. search needs)
+    (λ c. search needs)
+    (λ c. search needs)
+    (λ c. search needs)
+    (λ c. search needs)
     (λ c κs. search needs)
+    (λ c κs. search needs)
+    (λ c. search needs)
     (λ c. search needs)
     (λ c. search needs)
     (λ c. search needs)
