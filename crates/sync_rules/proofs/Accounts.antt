@@ -2,23 +2,22 @@
 -- Assumes nothing.
 use mathlib.Core.Path.{_≡_, refl, sym, ap, ap₂, _∙_, subst}
 use mathlib.Core.List.{List, [], _∷_, _++_, append-assoc, append-nil}
-use mathlib.Core.Bool.{Bool, true, false}
-use Prim.Native.Nat.{ℕ, zero, suc, _+_, _-_, _*_, _≤_, _<_}
+use Prim.Native.Nat.{ℕ, zero, suc, _+_, _-_, _*_, _≤_}
 use native.Mathlib.Omega.{arith}
-use lib.ListN.{length, take, drop, length-append}
+use lib.ListN.{length, take, drop}
 use lib.Seq.{drop-drop}
 use Rattle.bits.proofs.Conds.{cond-cases}
-use Rattle.sync_rules.specs.Matching.{inPlace, matches, firstOf, locksAt}
-use Rattle.sync_rules.specs.Moves.{Move, Stay, Later, Earlier, moved, laters, earliers}
+use Rattle.sync_rules.specs.Matching.{inPlace}
+use Rattle.sync_rules.specs.Moves.{Move, Stay, Later, Earlier, laters, earliers}
 use Rattle.sync_rules.specs.State.{State, Input, start, pending, pass, restore, counted, bring}
 use Rattle.sync_rules.specs.Frames.{Frame, Sent, ready, frontMove, follow, secondShift, secondAt, thirdShift, thirdAt, cut, frameAt, leave, sendAt, sendShifted, send}
-use Rattle.sync_rules.specs.Pushes.{tries, searchAt, search, Out, drain, step, run}
-use Rattle.sync_rules.specs.Demand.{stream, placeOf, sentBy}
+use Rattle.sync_rules.specs.Pushes.{searchAt, search, Out, drain, step, run}
+use Rattle.sync_rules.specs.Demand.{stream, sentBy}
 use Rattle.sync_rules.specs.Counts.{stateAfter, passedBy, searched}
-use Rattle.sync_rules.specs.Account.{Piece, Passed, Segment, Skip, Back, reach, shown, passed, skips, backs, bitsOfAll, Account, accountRule}
+use Rattle.sync_rules.specs.Account.{Piece, Passed, Segment, Skip, Back, reach, shown, passed, skips, backs, bitsOfAll, accountRule}
 use Rattle.sync_rules.proofs.Windows.{take-arrived}
-use Rattle.sync_rules.proofs.Lying.{Bal, Lies, lies-pending, lies-length, Fronts, fronts, moved-by, moves-few, Sends, IsReady, is-ready, sends}
-use Rattle.sync_rules.proofs.Hunts.{two, Inv, Searches, inv-search, inv-step, inv-start, reached, brought-bal, stream-on}
+use Rattle.sync_rules.proofs.Lying.{Bal, Lies, lies-pending, lies-length, Fronts, fronts, moved-by, moves-few, IsReady, is-ready, sends}
+use Rattle.sync_rules.proofs.Hunts.{two, Inv, inv-search, inv-step, inv-start, reached, brought-bal, stream-on}
 use Rattle.sync_rules.proofs.Demands.{place-is}
 use Rattle.sync_rules.proofs.Reaching.{brought-length}
 

@@ -1,25 +1,24 @@
 -- Demand 3 proved: from the push that begins a search to the last of k frames in place.
 -- Assumes nothing.
-use mathlib.Core.Path.{_≡_, refl, sym, ap, ap₂, _∙_, subst}
-use mathlib.Core.Logic.{_⊎_, inl, inr}
-use mathlib.Core.List.{List, [], _∷_, _++_, append-assoc, append-nil}
-use mathlib.Core.Bool.{Bool, true, false, _&&_, _||_, true≢false}
-use Prim.Native.Nat.{ℕ, zero, suc, _+_, _-_, _*_, _/_, _%_, _≤_, _<_, min}
-use native.Mathlib.Nat.{add-zero, mul-zero}
+use mathlib.Core.Path.{_≡_, refl, sym, ap, _∙_, subst}
+use mathlib.Core.Logic.{inl, inr}
+use mathlib.Core.List.{List, [], _∷_, _++_, append-nil}
+use mathlib.Core.Bool.{Bool, true, false, true≢false}
+use Prim.Native.Nat.{ℕ, zero, suc, _+_, _-_, _*_, _≤_, _<_}
 use native.Mathlib.Omega.{arith}
 use borrow.Author.Tests.{leb-true, leb-false}
-use lib.Dec.{leb, ltb, eqb}
-use lib.ListN.{length, take, drop, length-drop, length-append, length-take}
+use lib.Dec.{leb}
+use lib.ListN.{length, take, drop, length-append}
 use Rattle.sync_rules.specs.Matching.{errors, inPlace, locksAt}
-use Rattle.sync_rules.specs.State.{State, Input, pending, start, bring}
+use Rattle.sync_rules.specs.State.{State, Input, start, bring}
 use Rattle.sync_rules.specs.Frames.{Frame, Sent, sendAt, send, ready}
 use Rattle.sync_rules.specs.Pushes.{Out, search, drain, step, run}
-use Rattle.sync_rules.specs.Demand.{stream, Loses, Begins, placeOf, FirstLock, lastOffset, firstOffset, Figures, figures, inARow, sentBy, Demand3, demand3}
+use Rattle.sync_rules.specs.Demand.{stream, Loses, Begins, placeOf, lastOffset, firstOffset, Figures, figures, inARow, sentBy, Demand3, demand3}
 use Rattle.bits.proofs.Conds.{cond-cases}
 use Rattle.bits.proofs.Tests.{cond-yes, cond-no}
 use Rattle.sync_rules.proofs.Windows.{same-locks, seen}
-use Rattle.sync_rules.proofs.Lying.{Lies, lies-length, lies-more, Sends, IsReady, is-ready, sends}
-use Rattle.sync_rules.proofs.Hunts.{two, Inv, Searches, inv-search, reached, run-next, run-sent, stream-append, stream-on}
+use Rattle.sync_rules.proofs.Lying.{Lies, lies-length, lies-more, is-ready, sends}
+use Rattle.sync_rules.proofs.Hunts.{two, Inv, inv-search, reached, run-next, run-sent, stream-append, stream-on}
 use Rattle.sync_rules.proofs.Rides.{Hunting, Riding, Brought, brings, silent, goes-on, locks, waits, goes, as-is, shown, rides-on}
 
 -- ---- the frames of a drain

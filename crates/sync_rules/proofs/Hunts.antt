@@ -1,23 +1,20 @@
 -- Searching, by where in the stream: the states that pushes reach, and a search up to the place that it finds.
 -- Assumes nothing.
-use mathlib.Core.Path.{_≡_, refl, sym, ap, ap₂, _∙_, subst}
+use mathlib.Core.Path.{_≡_, refl, sym, ap, _∙_, subst}
 use mathlib.Core.List.{List, [], _∷_, _++_, append-assoc, append-nil}
-use mathlib.Core.Bool.{Bool, true, false, _&&_, _||_, true≢false, cond}
-use Prim.Native.Nat.{ℕ, zero, suc, _+_, _-_, _*_, _/_, _%_, _≤_, _<_, min}
-use native.Mathlib.Nat.{not-suc-le-zero}
+use mathlib.Core.Bool.{Bool, true, false, true≢false, cond}
+use Prim.Native.Nat.{ℕ, zero, suc, _+_, _-_, _*_, _/_, _%_, _≤_, _<_}
 use native.Mathlib.Omega.{arith}
-use borrow.Author.Tests.{leb-true, leb-false, ltb-true, ltb-false, lt-ltb, le-ltb, le-leb, lt-leb}
-use lib.Dec.{leb, ltb, eqb}
-use lib.ListN.{length, take, drop, length-drop, length-append}
-use lib.Seq.{drop-drop, drop-append-le}
-use Rattle.sync_rules.specs.Matching.{inPlace, locksAt, firstOf}
+use borrow.Author.Tests.{ltb-true, ltb-false}
+use lib.Dec.{ltb}
+use lib.ListN.{length, length-append}
+use Rattle.sync_rules.specs.Matching.{firstOf}
 use Rattle.sync_rules.specs.State.{State, Input, pending, start, pass, bring}
-use Rattle.sync_rules.specs.Frames.{Frame, Sent, send, ready}
+use Rattle.sync_rules.specs.Frames.{Frame, send, ready}
 use Rattle.sync_rules.specs.Pushes.{Out, tries, searchAt, search, drain, step, run}
 use Rattle.sync_rules.specs.Demand.{stream}
 use Rattle.bits.proofs.Conds.{cond-cases}
-use Rattle.sync_rules.proofs.Windows.{Alike, same-locks, seen}
-use Rattle.sync_rules.proofs.Lying.{Bal, Lies, lies-pending, lies-length, lies-more, lies-pass, Sends, IsReady, is-ready, not-ready, sends}
+use Rattle.sync_rules.proofs.Lying.{Bal, Lies, lies-length, lies-more, lies-pass, is-ready, not-ready, sends}
 
 -- ---- the first place
 pub first-le : (f : ℕ → Bool) (p n : ℕ) → firstOf f p n ≤ p + n
@@ -66,7 +63,6 @@ pub record Searches (H : List ℕ) (m : State) (a : ℕ) (n : State) : Type 0 wh
   pub clock : n .clock + a ≡ m .clock + (lies .from + n .restorable)
   pub further : a ≤ lies .from + n .restorable
   pub balance : Bal a m → Bal (lies .from + n .restorable) n
-  pub taken : n .taken ≡ m .taken
   pub frames : n .frames ≡ m .frames
   pub soft : n .soft ≡ m .soft
   pub failures : n .locked ≡ true → m .locked ≡ false → n .failures ≡ 0
@@ -86,7 +82,6 @@ searches-at H m l shut few p h =
       clock = omega arith;
       further = omega arith;
       balance = λ e. omega arith;
-      taken = refl;
       frames = refl;
       soft = refl;
       failures = λ t w. ap (λ (b : Bool). cond b 0 (m .failures)) t;
@@ -101,7 +96,7 @@ pub searches : (H : List ℕ) (m : State) (l : Lies H (m .held) (m .restorable))
 unfolding search
 searches H m l low high =
     cond-cases (λ n. Searches H m (l .from + m .restorable) n) (m .locked) m _
-    (λ t. record { lies = l; low = λ w. absurd (true≢false (sym t ∙ w)); high = λ v. omega (arith, high t); clock = refl; further = omega arith; balance = λ e. e; taken = refl; frames = refl; soft = refl; failures = λ v w. absurd (true≢false (sym t ∙ w)); keeps = λ v. refl })
+    (λ t. record { lies = l; low = λ w. absurd (true≢false (sym t ∙ w)); high = λ v. omega (arith, high t); clock = refl; further = omega arith; balance = λ e. e; frames = refl; soft = refl; failures = λ v w. absurd (true≢false (sym t ∙ w)); keeps = λ v. refl })
     (λ w. searches-at H m l w (low w) _ (from-first _ _ _ (omega arith)))
 
 -- frames: what is left once up to n of them went out

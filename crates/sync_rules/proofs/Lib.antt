@@ -5,6 +5,7 @@ pub mod Lying
 pub mod Hunts
 pub mod Rides
 pub mod Demands
+pub mod Keeping
 pub mod Reaching
 pub mod Offsets
 pub mod Accounts

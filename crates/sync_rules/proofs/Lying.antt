@@ -1,20 +1,19 @@
 -- Where in the stream the held bits lie, through every step of the rules.
 -- Assumes nothing.
-use mathlib.Core.Path.{_≡_, refl, sym, ap, ap₂, _∙_, subst}
-use mathlib.Core.List.{List, [], _∷_, _++_, append-assoc, append-nil}
+use mathlib.Core.Path.{_≡_, refl, sym, ap, _∙_}
+use mathlib.Core.List.{List, _++_}
 use mathlib.Core.Bool.{Bool, true, false, _&&_, _||_, true≢false, cond}
-use Prim.Native.Nat.{ℕ, zero, suc, _+_, _-_, _*_, _/_, _%_, _≤_, _<_, min}
+use Prim.Native.Nat.{ℕ, zero, suc, _+_, _-_, _*_, _≤_, min}
 use native.Mathlib.Omega.{arith}
-use borrow.Author.Tests.{eqb-true, leb-true, leb-false, ltb-true, ltb-false, lt-ltb, le-ltb, le-leb, lt-leb}
+use borrow.Author.Tests.{eqb-true, leb-true, leb-false}
 use lib.Dec.{leb, ltb, eqb}
-use lib.ListN.{length, take, drop, length-drop, length-append}
+use lib.ListN.{length, drop, length-drop, length-append}
 use lib.Seq.{drop-drop, drop-append-le}
-use Rattle.sync_rules.specs.Matching.{matches, inPlace, locksAt, firstOf}
-use Rattle.sync_rules.specs.Moves.{Move, Stay, Later, Earlier, moved, moveTo, laters, earliers}
-use Rattle.sync_rules.specs.State.{State, Input, pending, start, pass, restore, counted, bring}
-use Rattle.sync_rules.specs.Frames.{Frame, Sent, ready, frontMove, follow, secondShift, secondAt, thirdShift, thirdAt, frameAt, leave, sendAt, sendShifted, send}
-use Rattle.sync_rules.specs.Pushes.{tries, searchAt, search, Out, drain, step, run}
-use Rattle.sync_rules.specs.Demand.{stream}
+use Rattle.sync_rules.specs.Matching.{matches, inPlace}
+use Rattle.sync_rules.specs.Moves.{Move, Stay, Later, Earlier, moved, laters, earliers}
+use Rattle.sync_rules.specs.State.{State, pending, pass, restore, counted}
+use Rattle.sync_rules.specs.Frames.{Sent, ready, frontMove, follow, secondShift, secondAt, thirdShift, thirdAt, frameAt, leave, sendAt, sendShifted, send}
+use Rattle.sync_rules.specs.Pushes.{searchAt, search, Out, drain}
 use Rattle.bits.proofs.Conds.{cond-cases}
 use Rattle.bits.proofs.Ands.{both-true}
 
@@ -57,7 +56,6 @@ lies-restore H h o l =
 -- n has the figures of m, but for the bits and the count of slips
 pub record Like (m n : State) : Type 0 where
   pub clock : n .clock ≡ m .clock
-  pub taken : n .taken ≡ m .taken
   pub frames : n .frames ≡ m .frames
   pub synchronised : n .synchronised ≡ m .synchronised
   pub failures : n .failures ≡ m .failures
@@ -65,7 +63,7 @@ pub record Like (m n : State) : Type 0 where
   pub soft : n .soft ≡ m .soft
 
 pub like-same : (m : State) → Like m m
-like-same m = record { clock = refl; taken = refl; frames = refl; synchronised = refl; failures = refl; locked = refl; soft = refl }
+like-same m = record { clock = refl; frames = refl; synchronised = refl; failures = refl; locked = refl; soft = refl }
 
 -- place a of the first pending bit is the clock and the net slip
 abbrev pub Bal : ℕ → State → Type 0
@@ -84,11 +82,11 @@ module _ (H : List ℕ) (m : State) (l : Lies H (m .held) (m .restorable)) where
 
   front-on : l .from + m .restorable + 2 ≤ length H → Fronts H m (l .from + m .restorable) (counted Later (pass 2 m))
   unfolding counted laters earliers pass lies-pass
-  front-on f = record { like = record { clock = refl; taken = refl; frames = refl; synchronised = refl; failures = refl; locked = refl; soft = refl }; lies = lies-pass H (m .held) (m .restorable) 2 l f; near = (omega arith, omega arith); balance = λ e. omega arith }
+  front-on f = record { like = record { clock = refl; frames = refl; synchronised = refl; failures = refl; locked = refl; soft = refl }; lies = lies-pass H (m .held) (m .restorable) 2 l f; near = (omega arith, omega arith); balance = λ e. omega arith }
 
   front-back : m .restorable ≡ 2 → Fronts H m (l .from + m .restorable) (counted Earlier (restore m))
   unfolding counted laters earliers restore lies-restore
-  front-back two = let o = l .restorable in record { like = record { clock = refl; taken = refl; frames = refl; synchronised = refl; failures = refl; locked = refl; soft = refl }; lies = lies-restore H (m .held) (m .restorable) l; near = (omega arith, omega arith); balance = λ e. omega arith }
+  front-back two = let o = l .restorable in record { like = record { clock = refl; frames = refl; synchronised = refl; failures = refl; locked = refl; soft = refl }; lies = lies-restore H (m .held) (m .restorable) l; near = (omega arith, omega arith); balance = λ e. omega arith }
 
   pub fronts : l .from + m .restorable + 2 ≤ length H → Fronts H m (l .from + m .restorable) (follow (frontMove m) m)
   unfolding frontMove follow
@@ -118,7 +116,6 @@ pub record Sends (H : List ℕ) (m : State) (a : ℕ) (s : Sent) : Type 0 where
   pub balance : Bal a m → Bal (lies .from + s .next .restorable) (s .next)
   pub offset : s .frame .offset ≡ m .clock
   pub clock : s .next .clock ≡ m .clock + 384
-  pub taken : s .next .taken ≡ m .taken
   pub frames : s .next .frames ≡ m .frames + 1
   pub soft : s .next .soft ≡ m .soft
   pub failures : s .next .failures ≡ cond (s .frame .matched) 0 (m .failures + 1)
@@ -134,7 +131,6 @@ sends-at H m a n k l h p q e g f =
       balance = λ w. omega (arith, e w);
       offset = k .clock;
       clock = ap (λ (z : ℕ). z + 384) (k .clock);
-      taken = k .taken;
       frames = ap (λ (z : ℕ). z + 1) (k .frames);
       soft = k .soft;
       failures = ap (λ (z : ℕ). cond (frameAt n p q .matched) 0 (z + 1)) (k .failures);
@@ -143,7 +139,7 @@ sends-at H m a n k l h p q e g f =
 
 like-counted : (m n : State) (v : Move) → Like m n → Like m (counted v n)
 unfolding counted
-like-counted m n v k = record { clock = k .clock; taken = k .taken; frames = k .frames; synchronised = k .synchronised; failures = k .failures; locked = k .locked; soft = k .soft }
+like-counted m n v k = record { clock = k .clock; frames = k .frames; synchronised = k .synchronised; failures = k .failures; locked = k .locked; soft = k .soft }
 
 sends-shifted : (H : List ℕ) (m : State) (a : ℕ) (n : State) → Fronts H m a n → a + 390 ≤ length H → Sends H m a (sendShifted n)
 unfolding sendShifted counted
@@ -207,21 +203,22 @@ sends H m l r =
     (λ w. let g : 392 ≤ length (pending m) = r .more w in sends-shifted H m a (follow (frontMove m) m) (fronts H m l (omega arith)) (omega arith))
 
 -- ---- what is held only shrinks once a push has brought its bits
-drop-less : (k : ℕ) (xs : List ℕ) → length (drop k xs) ≤ length xs
-drop-less k xs = omega (arith, length-drop k xs)
+pass-less : (k : ℕ) (m : State) → length (pass k m .held) ≤ length (m .held)
+unfolding pass
+pass-less k m = omega (arith, length-drop (m .restorable + k - 2) (m .held))
 
 follow-less : (v : Move) (m : State) → length (follow v m .held) ≤ length (m .held)
-unfolding follow counted pass restore
+unfolding follow counted restore
 follow-less Stay m = omega arith
-follow-less Later m = drop-less (m .restorable + 2 - 2) (m .held)
+follow-less Later m = pass-less 2 m
 follow-less Earlier m = omega arith
 
 front-less : (m : State) → length (follow (frontMove m) m .held) ≤ length (m .held)
 front-less m = follow-less (frontMove m) m
 
 at-less : (m : State) (p q : ℕ) → length (sendAt m p q .next .held) ≤ length (m .held)
-unfolding sendAt leave pass
-at-less m p q = drop-less (m .restorable + (q + 128) - 2) (m .held)
+unfolding sendAt leave
+at-less m p q = pass-less _ m
 
 shifted-less : (m : State) → length (sendShifted m .next .held) ≤ length (m .held)
 unfolding sendShifted counted
@@ -237,8 +234,8 @@ drain-less zero m = omega arith
 drain-less (suc n) m = cond-cases (λ (o : Out). length (o .next .held) ≤ length (m .held)) (ready m) _ _ (λ t. omega (arith, drain-less n (send m .next), send-less m)) (λ w. omega arith)
 
 at-search-less : (m : State) (p : ℕ) → length (searchAt m p .held) ≤ length (m .held)
-unfolding searchAt pass
-at-search-less m p = drop-less (m .restorable + p - 2) (m .held)
+unfolding searchAt
+at-search-less m p = pass-less p m
 
 pub search-less : (m : State) → length (search m .held) ≤ length (m .held)
 unfolding search

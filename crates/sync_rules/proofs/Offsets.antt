@@ -1,21 +1,21 @@
 -- Offsets of frames: none falls below the clock, and between two of them lie the bits that searches passed.
 -- Assumes nothing.
-use mathlib.Core.Path.{_≡_, refl, sym, ap, ap₂, _∙_, subst}
+use mathlib.Core.Path.{_≡_, refl, sym, ap, _∙_, subst}
 use mathlib.Core.List.{List, [], _∷_, _++_}
-use Prim.Native.Nat.{ℕ, zero, suc, _+_, _-_, _*_, _≤_, _<_}
+use Prim.Native.Nat.{ℕ, zero, suc, _+_, _-_, _≤_, _<_}
 use native.Mathlib.Nat.{add-zero}
 use native.Mathlib.Omega.{arith}
-use lib.ListN.{length, getD, length-append}
+use lib.ListN.{length, getD}
 use Rattle.bits.proofs.Conds.{cond-cases}
-use Rattle.sync_rules.specs.State.{State, Input, start, pending, bring}
-use Rattle.sync_rules.specs.Frames.{Frame, Sent, ready, send}
+use Rattle.sync_rules.specs.State.{State, Input, start, bring}
+use Rattle.sync_rules.specs.Frames.{Frame, ready, send}
 use Rattle.sync_rules.specs.Pushes.{search, Out, drain, step, run}
 use Rattle.sync_rules.specs.Demand.{stream, sentBy}
 use Rattle.sync_rules.specs.Counts.{stateAfter, passedBy, searched, offsets, none, gaps, rest, between, since, total}
-use Rattle.sync_rules.specs.Statements.{Settled, settledRule, Gaps, gapRule}
-use Rattle.sync_rules.proofs.Lying.{Lies, Sends, is-ready, sends}
-use Rattle.sync_rules.proofs.Hunts.{two, Inv, Searches, inv-search, inv-step, inv-start, reached, run-next}
-use Rattle.sync_rules.proofs.Reaching.{run-clock, brought-clock, stepped}
+use Rattle.sync_rules.specs.Statements.{settledRule, gapRule}
+use Rattle.sync_rules.proofs.Lying.{Lies, is-ready, sends}
+use Rattle.sync_rules.proofs.Hunts.{two, Inv, inv-search, inv-step, inv-start, reached, run-next}
+use Rattle.sync_rules.proofs.Reaching.{run-clock, stepped}
 
 -- ---- frames fs and, for each, the bits passed before it; d is the offset of the first one if none were passed
 Spaced : ℕ → List Frame → List ℕ → Type 0

@@ -2,28 +2,27 @@
 -- Assumes nothing.
 use mathlib.Core.Path.{_≡_, refl, sym, ap, ap₂, _∙_, subst}
 use mathlib.Core.Logic.{_⊎_, inl, inr}
-use mathlib.Core.List.{List, [], _∷_, _++_, append-assoc, append-nil}
-use mathlib.Core.Bool.{Bool, true, false, _&&_, _||_, true≢false, cond}
-use Prim.Native.Nat.{ℕ, zero, suc, _+_, _-_, _*_, _/_, _%_, _≤_, _<_, min}
-use native.Mathlib.Nat.{not-suc-le-zero}
+use mathlib.Core.List.{List, [], _∷_, _++_}
+use mathlib.Core.Bool.{Bool, true, false, _||_, true≢false, cond}
+use Prim.Native.Nat.{ℕ, zero, suc, _+_, _-_, _*_, _≤_, _<_}
 use native.Mathlib.Omega.{arith}
-use borrow.Author.Tests.{leb-true, leb-false, ltb-true, ltb-false, lt-ltb, le-ltb}
-use lib.Dec.{leb, ltb, eqb}
+use borrow.Author.Tests.{ltb-true, ltb-false}
+use lib.Dec.{ltb}
 use lib.IntN.{pos, negsuc, subℕ, _+ℤ_}
-use lib.ListN.{length, getD, take, drop, length-drop, length-append}
-use Rattle.sync_rules.specs.Matching.{inPlace}
+use lib.ListN.{length, drop, length-drop, length-append}
 use Rattle.sync_rules.specs.State.{State, Input, pending, start, bring}
-use Rattle.sync_rules.specs.Frames.{Frame, Sent, send, ready}
+use Rattle.sync_rules.specs.Frames.{Frame, send, ready}
 use Rattle.sync_rules.specs.Pushes.{Out, search, drain, step, run}
-use Rattle.sync_rules.specs.Demand.{stream, Loses, placeOf, sentBy}
-use Rattle.sync_rules.specs.Counts.{stateAfter, passedBy, searched, everSoft, offsets, grid, poor, lockSent}
-use Rattle.sync_rules.specs.Statements.{LockRule, Rules, rules}
+use Rattle.sync_rules.specs.Demand.{stream, Loses, sentBy}
+use Rattle.sync_rules.specs.Counts.{stateAfter, searched, everSoft, offsets, grid, poor, lockSent}
+use Rattle.sync_rules.specs.Statements.{LockRule, rules}
 use Rattle.bits.proofs.Conds.{cond-cases, cond-ge}
-use Rattle.bits.proofs.Tests.{cond-yes, cond-no}
-use Rattle.sync_rules.proofs.Lying.{Lies, lies-more, lies-length, lies-pending, Sends, IsReady, is-ready, sends, drain-less, search-less}
-use Rattle.sync_rules.proofs.Hunts.{two, Inv, Searches, inv-bring, inv-search, inv-step, inv-start, reached, run-next, run-sent, stream-append, stream-on}
+use Rattle.sync_rules.proofs.Lying.{Lies, lies-more, lies-length, lies-pending, is-ready, sends, drain-less, search-less}
+use Rattle.sync_rules.proofs.Hunts.{two, Inv, inv-bring, inv-search, inv-step, inv-start, reached}
 use Rattle.sync_rules.proofs.Rides.{no-lock}
-use Rattle.sync_rules.proofs.Demands.{place-is, more-next, more-sent}
+use Rattle.sync_rules.proofs.Taken.{step-taken}
+use Rattle.sync_rules.proofs.Keeping.{found-it}
+use Rattle.sync_rules.proofs.Demands.{place-is}
 
 -- ---- a drain: its frames' offsets, its counts
 pub drain-offsets : (n : ℕ) (H : List ℕ) (m : State) (l : Lies H (m .held) (m .restorable)) → offsets (drain n m .sent) ≡ grid (m .clock) (length (drain n m .sent))
@@ -38,36 +37,30 @@ drain-offsets (suc n) H m l =
 -- the figures that a drain keeps or counts up
 pub record Counts (m : State) (o : Out) : Type 0 where
   pub clock : o .next .clock ≡ m .clock + 384 * length (o .sent)
-  pub taken : o .next .taken ≡ m .taken
   pub frames : o .next .frames ≡ m .frames + length (o .sent)
   pub soft : o .next .soft ≡ m .soft
 
 counts : (n : ℕ) (H : List ℕ) (m : State) (l : Lies H (m .held) (m .restorable)) → Counts m (drain n m)
 unfolding drain
-counts zero H m l = record { clock = omega arith; taken = refl; frames = omega arith; soft = refl }
+counts zero H m l = record { clock = omega arith; frames = omega arith; soft = refl }
 counts (suc n) H m l =
     cond-cases (λ (o : Out). Counts m o) (ready m) _ _
     (λ t. let s = sends H m l (is-ready m t) in
     let c = counts n H (send m .next) (s .lies) in
-    record { clock = omega (arith, c .clock, s .clock); taken = c .taken ∙ s .taken; frames = omega (arith, c .frames, s .frames); soft = c .soft ∙ s .soft })
-    (λ w. record { clock = omega arith; taken = refl; frames = omega arith; soft = refl })
+    record { clock = omega (arith, c .clock, s .clock); frames = omega (arith, c .frames, s .frames); soft = c .soft ∙ s .soft })
+    (λ w. record { clock = omega arith; frames = omega arith; soft = refl })
 
 -- a push
 pub record Stepped (x : Input) (m : State) : Type 0 where
   pub clock : step x m .next .clock ≡ m .clock + (length (pending (bring x m)) - length (pending (search (bring x m)))) + 384 * length (step x m .sent)
   pub offset : offsets (step x m .sent) ≡ grid (m .clock + (length (pending (bring x m)) - length (pending (search (bring x m))))) (length (step x m .sent))
   pub search : search (bring x m) .clock ≡ m .clock + (length (pending (bring x m)) - length (pending (search (bring x m))))
-  pub taken : step x m .next .taken ≡ m .taken + 1
   pub frames : step x m .next .frames ≡ m .frames + length (step x m .sent)
   pub soft : step x m .next .soft ≡ (m .soft || x .soft)
 
 pub brought-clock : (x : Input) (m : State) → bring x m .clock ≡ m .clock
 unfolding bring
 brought-clock x m = refl
-
-brought-taken : (x : Input) (m : State) → bring x m .taken ≡ m .taken + 1
-unfolding bring
-brought-taken x m = refl
 
 brought-frames : (x : Input) (m : State) → bring x m .frames ≡ m .frames
 unfolding bring
@@ -93,7 +86,6 @@ stepped H x m i =
       clock = omega (arith, c .clock);
       search = d;
       offset = drain-offsets 3 (H ++ two x) N (s .lies) ∙ ap (λ (n : ℕ). grid n (length (drain 3 N .sent))) d;
-      taken = c .taken ∙ s .taken ∙ brought-taken x m;
       frames = c .frames ∙ ap (λ (n : ℕ). n + length (drain 3 N .sent)) (s .frames ∙ brought-frames x m);
       soft = c .soft ∙ s .soft ∙ brought-soft x m;
     }
@@ -114,10 +106,10 @@ run-clock (x ∷ xs) H m i =
     let s = stepped H x m i in
     omega (arith, run-clock xs (H ++ two x) (step x m .next) (inv-step H x m i), s .clock, length-append (step x m .sent) (run xs (step x m .next) .sent))
 
-run-taken : (xs : List Input) (H : List ℕ) (m : State) → Inv H m → run xs m .next .taken ≡ m .taken + length xs
+run-taken : (xs : List Input) (m : State) → run xs m .next .taken ≡ m .taken + length xs
 unfolding run
-run-taken [] H m i = omega arith
-run-taken (x ∷ xs) H m i = omega (arith, run-taken xs (H ++ two x) (step x m .next) (inv-step H x m i), stepped H x m i .taken)
+run-taken [] m = omega arith
+run-taken (x ∷ xs) m = omega (arith, run-taken xs (step x m .next), step-taken x m)
 
 run-frames : (xs : List Input) (H : List ℕ) (m : State) → Inv H m → run xs m .next .frames ≡ m .frames + length (run xs m .sent)
 unfolding run
@@ -277,6 +269,7 @@ lock-rule xs =
     record {
       holds = λ t. omega (arith, L .open′ t .0, L .open′ t .1);
       ends = λ x lost. ap (poor 0) (lock-append xs x start []) ∙ lost-three (stream xs) x (stateAfter xs) (lockSent xs start []) (reached xs) L lost;
+      found = λ x lost. found-it x (stateAfter xs) lost;
       before = λ gs f hs e. holds-before 0 gs f hs (subst (λ (l : List Frame). Holds 0 l) e (L .holds));
     }
 
@@ -329,7 +322,7 @@ all-rules xs =
       clock = k ∙ ap (λ (fs : List Frame). searched xs start + 384 * length fs) (sym e);
       offset = λ x. stepped H x m i .offset ∙ ap (λ (a : ℕ). grid a (length (step x m .sent))) (start-of x k (searched-append xs x start) (ap length e));
       balance = signed (length H) (m .clock) (2 * m .later) (2 * m .earlier) (length (pending m)) (omega (arith, i .balance));
-      pushed = (stream-length xs, run-taken xs [] start inv-start ∙ omega arith, run-frames xs [] start inv-start ∙ omega (arith, ap length e));
+      pushed = (stream-length xs, run-taken xs start ∙ omega arith, run-frames xs [] start inv-start ∙ omega (arith, ap length e));
       lock = lock-rule xs;
       soft = run-soft xs [] start inv-start;
     }

@@ -1,36 +1,36 @@
 -- Demand 3: a search up to the place that it finds, and the frames in place from there on.
 -- Assumes nothing.
 use mathlib.Core.Path.{_≡_, refl, sym, ap, ap₂, _∙_, subst}
-use mathlib.Core.Logic.{_⊎_, inl, inr}
-use mathlib.Core.List.{List, [], _∷_, _++_, append-assoc, append-nil}
+use mathlib.Core.List.{List, [], _∷_, _++_}
 use mathlib.Core.Bool.{Bool, true, false, _&&_, _||_, true≢false, cond}
-use Prim.Native.Nat.{ℕ, zero, suc, _+_, _-_, _*_, _/_, _%_, _≤_, _<_, min}
-use native.Mathlib.Nat.{add-zero, mul-zero}
+use Prim.Native.Nat.{ℕ, zero, suc, _+_, _-_, _≤_, _<_}
 use native.Mathlib.Omega.{arith}
-use borrow.Author.Tests.{leb-true, leb-false, ltb-true, ltb-false, lt-ltb, le-ltb, le-leb, lt-leb}
-use lib.Dec.{leb, ltb, eqb}
-use lib.ListN.{length, take, drop, length-drop, length-append, length-take}
-use lib.Seq.{drop-drop, drop-append-le, take-append-le}
+use borrow.Author.Tests.{lt-ltb, le-ltb, le-leb, lt-leb}
+use lib.Dec.{leb, ltb}
+use lib.ListN.{length, take, drop, length-drop, length-append}
 use Rattle.sync_rules.specs.Matching.{twoOf, matches, errors, inPlace, locksAt, firstOf}
-use Rattle.sync_rules.specs.State.{State, Input, pending, start, pass, bring}
-use Rattle.sync_rules.specs.Frames.{Frame, Sent, cut, frameAt, leave, sendAt, send, ready}
-use Rattle.sync_rules.specs.Pushes.{Out, tries, searchAt, search, drain, step, run}
-use Rattle.sync_rules.specs.Demand.{stream, Loses, Begins, placeOf, FirstLock, lastOffset, firstOffset, Figures, figures, inARow, sentBy, Demand3, demand3}
-use Rattle.bits.proofs.Conds.{cond-cases}
-use Rattle.bits.proofs.Tests.{cond-yes, cond-no}
-use Rattle.sync_rules.proofs.Windows.{Alike, same-locks, same-in-place, same-errors, same-matches, seen, cut-whole, take-arrived}
+use Rattle.sync_rules.specs.State.{State, Input, pending, pass, bring}
+use Rattle.sync_rules.specs.Frames.{frameAt, leave, sendAt, send, ready}
+use Rattle.sync_rules.specs.Pushes.{Out, tries, searchAt, search, drain}
+use Rattle.sync_rules.specs.Demand.{Figures, figures}
+use Rattle.bits.proofs.Tests.{cond-yes, cond-no, and-f}
+use Rattle.sync_rules.proofs.Windows.{Alike, same-locks, same-in-place, same-errors, seen, cut-whole, take-arrived}
 use Rattle.sync_rules.proofs.Lying.{Lies, lies-pending, lies-length, lies-more, lies-pass}
-use Rattle.sync_rules.proofs.Hunts.{two, first-is, first-missing, Inv, Searches, searches-at, reached, run-next, run-sent, stream-append, stream-on}
+use Rattle.sync_rules.proofs.Hunts.{two, first-is, first-missing}
 
 -- ---- searching
 pub search-at : (m : State) (p : ℕ) → m .locked ≡ false → firstOf (locksAt (pending m)) 0 (tries m) ≡ p → search m ≡ searchAt m p
 unfolding search
 search-at m p shut e = sym (cond-no (m .locked) (m .locked) m (searchAt m (firstOf (locksAt (pending m)) 0 (tries m))) refl shut) ∙ ap (searchAt m) e
 
+not-locked : (m : State) → m .locked ≡ false → ready m ≡ false
+unfolding ready
+not-locked m shut = sym (and-f (m .locked) _ (m .locked) refl shut)
+
 pub no-lock : (n : ℕ) (m : State) → m .locked ≡ false → drain n m ≡ record { sent = []; next = m }
-unfolding drain ready
+unfolding drain
 no-lock zero m shut = refl
-no-lock (suc n) m shut = sym (cond-no _ (m .locked && (leb 384 (length (pending m)) && (inPlace (pending m) 0 || leb 392 (length (pending m))))) _ _ refl (ap (λ (b : Bool). b && (leb 384 (length (pending m)) && (inPlace (pending m) 0 || leb 392 (length (pending m))))) shut))
+no-lock (suc n) m shut = sym (cond-no (ready m) (ready m) _ _ refl (not-locked m shut))
 
 -- no lock yet: the place of the first pending bit is between p and q, and the clock has gone as far as the place
 pub record Hunting (H : List ℕ) (m : State) (p c q : ℕ) : Type 0 where

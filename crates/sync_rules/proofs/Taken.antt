@@ -2,12 +2,13 @@
 -- Assumes nothing.
 use mathlib.Core.Path.{_≡_, refl, _∙_}
 use Prim.Native.Nat.{ℕ, zero, suc, _+_}
+use native.Mathlib.Omega.{arith}
 use Rattle.bits.proofs.Conds.{cond-cases}
-use Rattle.sync_rules.specs.Matching.{inPlace, firstOf, locksAt}
+use Rattle.sync_rules.specs.Matching.{inPlace}
 use Rattle.sync_rules.specs.Moves.{Move, Stay, Later, Earlier}
 use Rattle.sync_rules.specs.State.{State, Input, pending, pass, restore, counted, bring}
 use Rattle.sync_rules.specs.Frames.{Sent, ready, frontMove, follow, leave, sendAt, sendShifted, send}
-use Rattle.sync_rules.specs.Pushes.{tries, searchAt, search, Out, drain, step}
+use Rattle.sync_rules.specs.Pushes.{searchAt, search, Out, drain, step}
 
 follow-taken : (v : Move) (m : State) → follow v m .taken ≡ m .taken
 unfolding follow counted pass restore
@@ -42,4 +43,4 @@ brought-taken x m = refl
 
 pub step-taken : (x : Input) (m : State) → step x m .next .taken ≡ m .taken + 1
 unfolding step
-step-taken x m = drain-taken 3 (search (bring x m)) ∙ search-taken (bring x m) ∙ brought-taken x m
+step-taken x m = omega (arith, drain-taken 3 (search (bring x m)), search-taken (bring x m), brought-taken x m)

@@ -1,9 +1,8 @@
 -- What a stretch of the stream shows, from any place of it on.
 -- Assumes nothing.
-use mathlib.Core.Path.{_≡_, refl, sym, ap, ap₂, _∙_}
-use mathlib.Core.List.{List, [], _∷_, _++_}
-use mathlib.Core.Bool.{Bool, true, false, _&&_}
-use Prim.Native.Nat.{ℕ, zero, suc, _+_, _-_, _*_, _%_, _≤_, _<_}
+use mathlib.Core.Path.{_≡_, refl, sym, ap, _∙_}
+use mathlib.Core.List.{List, _++_}
+use Prim.Native.Nat.{ℕ, _+_, _-_, _%_, _≤_}
 use native.Mathlib.Omega.{arith}
 use lib.Dec.{eqb}
 use lib.ListN.{length, take, drop, length-drop}
@@ -18,7 +17,7 @@ use Rattle.sync_rules.proofs.Tests.{two-like}
 abbrev pub Alike : ℕ → List ℕ → ℕ → List ℕ → ℕ → Type 0
 Alike w xs p ys q = (i a b : ℕ) → a ≡ p + i → b ≡ q + i → i + 16 ≤ w → sixteen xs a ≡ sixteen ys b
 
-matches-like : (xs : List ℕ) (p : ℕ) (ys : List ℕ) (q k : ℕ) → sixteen xs p ≡ sixteen ys q → matches xs p k ≡ matches ys q k
+pub matches-like : (xs : List ℕ) (p : ℕ) (ys : List ℕ) (q k : ℕ) → sixteen xs p ≡ sixteen ys q → matches xs p k ≡ matches ys q k
 unfolding matches
 matches-like xs p ys q k e = ap (λ (l : List ℕ). eqb (spell 0 l % 16384) (marker k % 16384)) e
 

@@ -11,7 +11,7 @@ use lib.ListN.{length, take, drop}
 use Rattle.sync_rules.specs.Matching.{locksAt, inPlace, errors}
 use Rattle.sync_rules.specs.State.{State, Input, start, pending, bring}
 use Rattle.sync_rules.specs.Frames.{Frame}
-use Rattle.sync_rules.specs.Pushes.{Out, search, run, step}
+use Rattle.sync_rules.specs.Pushes.{search, run, step}
 
 -- the stream's bits: bit 2i and 2i + 1 are the high and the low bit of dibit i
 unfoldable pub stream : List Input → List ℕ
@@ -20,7 +20,7 @@ stream (x ∷ xs) = x .dibit / 2 ∷ x .dibit % 2 ∷ stream xs
 
 -- The push x ends a lock: held at some instant of it and not at its end. `search (bring x m)` is the state after the search, with the lock
 -- that was there before or was taken in this very push; after it only frames change the lock, and no search follows them in the push.
--- So this is every loss of lock, whether or not one push can both take and lose a lock.
+-- So this is every loss of lock, without asking whether one push can both take and lose a lock. (None can: `LockRule`'s `found`, specs/Statements.antt.)
 unfoldable pub Loses : Input → State → Type 0
 unfolding search bring step
 Loses x m = (search (bring x m) .locked ≡ true) × (step x m .next .locked ≡ false)

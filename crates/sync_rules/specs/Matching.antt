@@ -2,7 +2,7 @@
 -- A place is an index into a list of bits; bits are 0 or 1, in the order in which they came.
 -- Assumes nothing.
 use mathlib.Core.List.{List, [], _∷_}
-use mathlib.Core.Bool.{Bool, true, false, cond, _&&_, _||_}
+use mathlib.Core.Bool.{Bool, cond, _&&_, _||_}
 use Prim.Native.Nat.{ℕ, zero, suc, _+_, _-_, _*_, _%_}
 use lib.ListN.{take, drop}
 use lib.Dec.{eqb}

@@ -7,7 +7,7 @@ use lib.ListN.{length}
 use lib.Dec.{ltb}
 use Rattle.sync_rules.specs.Matching.{locksAt, firstOf}
 use Rattle.sync_rules.specs.State.{State, Input, pending, pass, bring}
-use Rattle.sync_rules.specs.Frames.{Frame, Sent, ready, send}
+use Rattle.sync_rules.specs.Frames.{Frame, ready, send}
 
 -- at how many places a search tries: those from which 1,152 bits are pending
 unfoldable pub tries : State → ℕ

@@ -1,7 +1,7 @@
 -- What a synchroniser is: the bits that it holds and its figures, and what a push brings.
 -- Assumes nothing.
 use mathlib.Core.List.{List, [], _∷_, _++_}
-use mathlib.Core.Bool.{Bool, true, false, _||_}
+use mathlib.Core.Bool.{Bool, false, _||_}
 use Prim.Native.Nat.{ℕ, _+_, _-_, _*_, _/_, _%_, min}
 use lib.IntN.{ℤ, subℕ}
 use lib.ListN.{drop}

@@ -13,10 +13,12 @@ use Rattle.sync_rules.specs.Demand.{stream, Loses, placeOf, sentBy}
 use Rattle.sync_rules.specs.Counts.{stateAfter, searched, everSoft, offsets, grid, poor, lockSent, between, since, total}
 
 -- "Lock ends exactly with the third frame in a row, counted since that lock began, that has fewer than two markers":
--- while it holds there are fewer than three, a push that ends it has made them three, and no frame of it goes out after three
+-- while it holds there are fewer than three, a push that ends it has made them three, and no frame of it goes out after three.
+-- And no push both takes and loses a lock: one that ends a lock found it there.
 pub record LockRule (xs : List Input) (fs : List Frame) : Type 0 where
   pub holds : stateAfter xs .locked ≡ true → poor 0 fs < 3
   pub ends : (x : Input) → Loses x (stateAfter xs) → poor 0 (lockSent (xs ++ (x ∷ [])) start []) ≡ 3
+  pub found : (x : Input) → Loses x (stateAfter xs) → stateAfter xs .locked ≡ true
   pub before : (gs : List Frame) (f : Frame) (hs : List Frame) → fs ≡ gs ++ (f ∷ hs) → poor 0 gs < 3
 
 pub record Rules (xs : List Input) : Type 0 where

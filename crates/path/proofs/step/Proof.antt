@@ -1,6 +1,8 @@
-use mathlib.Core.Path.{_≡_, refl}
-use Prim.Native.Nat.{ℕ, _+_, _*_, _-_, _≤_, _<_}
+use mathlib.Core.Bool.{cond}
+use mathlib.Core.Path.{_≡_, refl, sym, ap, _∙_}
+use Prim.Native.Nat.{ℕ, _+_, _*_, _-_, _≤_, _<_, min}
 use native.Mathlib.Omega.{arith}
+use lib.Dec.{ltb}
 use lib.ListN.{getD, length, length-set}
 use Rattle.path.specs.Path.{arrive, survivor, weigh}
 use Rattle.path.proofs.Pairs.{weigh-le, arrive-even, arrive-odd, survivor-even, survivor-odd}
@@ -49,7 +51,8 @@ loop-again c =
     let s = c .before .before .before .before .before in
     let o = s .args .seen in
     let k : ℕ → ℕ = λ i. getD (s .args .t2) i 0 in
-    let h : l .prior < 128 = omega arith in
+    let p : ℕ = l .prior in
+    let h : p < 128 = omega arith in
     let d = c .before .before .differ .ensures in
     let b = c .butterfly .ensures in
     let r = c .butterfly .result in (
@@ -57,11 +60,11 @@ loop-again c =
       simp length-set (v .1),
       simp length-set (v .2),
       pair-more (l .next) (arrive k (weigh o)) (l .prior) (r .even) (r .odd) (v .1) h (v .3)
-          (cc (arrive-even o (s .pre .0) (l .prior) h k))
-          (cc (arrive-odd o (s .pre .0) (l .prior) h k)),
+          (b .even ∙ ap (λ (x : ℕ). min (k p + x) (k (p + 128) + (o .wa + o .wb - x))) d ∙ sym (arrive-even o (s .pre .0) p h k))
+          (b .odd ∙ ap (λ (x : ℕ). min (k p + (o .wa + o .wb - x)) (k (p + 128) + x)) d ∙ sym (arrive-odd o (s .pre .0) p h k)),
       pair-more (l .chosen) (survivor k (weigh o)) (l .prior) (r .ebit) (r .obit) (v .2) h (v .4)
-          (cc (survivor-even o (s .pre .0) (l .prior) h k))
-          (cc (survivor-odd o (s .pre .0) (l .prior) h k)),
+          (b .ebit ∙ ap (λ (x : ℕ). cond (ltb (k (p + 128) + (o .wa + o .wb - x)) (k p + x)) 1 0) d ∙ sym (survivor-even o (s .pre .0) p h k))
+          (b .obit ∙ ap (λ (x : ℕ). cond (ltb (k (p + 128) + x) (k p + (o .wa + o .wb - x))) 1 0) d ∙ sym (survivor-odd o (s .pre .0) p h k)),
     )
 
 returns : tie.Need-returns Inv-loop μ-loop
