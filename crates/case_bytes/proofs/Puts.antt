@@ -51,3 +51,15 @@ put-more {l} {place} {xs} {m} {i} {ys} {n} {j} p q =
           ∙ sym (sets-append l xs ys place);
       goesOn = omega (arith, length-append xs ys, p .goesOn, q .goesOn);
     }
+
+sets-cons : (x : ℕ) (l ys : List ℕ) (i : ℕ) → sets (x ∷ l) (suc i) ys ≡ x ∷ sets l i ys
+sets-cons x l [] i = refl
+sets-cons x l (y ∷ ys) i = sets-cons x (set l i y) ys (suc i)
+
+set-front : (l ys : List ℕ) (x y : ℕ) → set (sets l 0 (x ∷ ys)) 0 y ≡ sets l 0 (y ∷ ys)
+set-front [] ys x y = ap (λ (k : List ℕ). set k 0 y) (sets-out [] ys 1 (omega arith)) ∙ sym (sets-out [] ys 1 (omega arith))
+set-front (a ∷ l) ys x y = ap (λ (k : List ℕ). set k 0 y) (sets-cons x l ys 0) ∙ sym (sets-cons y l ys 0)
+
+-- a byte put over the first one
+pub put-front : {l : List ℕ} {x : ℕ} {ys m : List ℕ} {i y : ℕ} {n : List ℕ} {j : ℕ} → Put l 0 (x ∷ ys) m i → Put m 0 (y ∷ []) n j → Put l 0 (y ∷ ys) n i
+put-front {l} {x} {ys} {m} {i} {y} {n} {j} p q = record { holds = q .holds ∙ ap (λ (k : List ℕ). set k 0 y) (p .holds) ∙ set-front l ys x y; goesOn = p .goesOn }

@@ -1,6 +1,5 @@
 -- What a case of each kind answers: the table of docs/REPLAY.md, by the definitions that the libraries' contracts cite.
 -- Assumes nothing.
-use mathlib.Core.Path.{_≡_}
 use mathlib.Core.Bool.{Bool, cond}
 use mathlib.Core.List.{List, [], _∷_, _++_}
 use Prim.Native.Nat.{ℕ, _+_}
@@ -10,7 +9,8 @@ use Rattle.bits.specs.Refusals.{numberOf}
 use Rattle.bits.specs.declared.Refusal.the-variants.{Table}
 use Rattle.bits.specs.declared.Writing.{Writing}
 use Rattle.bits.specs.declared.Writing.the-variants as writing
-use Rattle.case_bytes.specs.Bytes.{Put, lastBytes}
+use Rattle.case_bytes.specs.Answers.{Answer, bytes, unfit}
+use Rattle.case_bytes.specs.Bytes.{lastBytes}
 use Rattle.coding.specs.Calls.{sizeAnswer, afterScramble, afterDescramble}
 use Rattle.coding.specs.Crc.{crcOf}
 use Rattle.field.specs.Field.{product, quotient}
@@ -19,17 +19,6 @@ use Rattle.trials.specs.Calls.{encodeAnswer, encodeLeaves, decodeAnswer, softAn
 use Rattle.trials.specs.declared.Decoded.{Decoded}
 use Rattle.trials.specs.declared.Decoding.{Decoding}
 use Rattle.trials.specs.declared.Decoding.the-variants as decoding
-
--- the answer's bytes; or the input does not fit the kind
-pub data Answer : Type 0 where
-  bytes : List ℕ → Answer
-  unfit : Answer
-
--- how it is told: the bytes are put at the front of the lent memory, and their number is answered; where the input does not fit, nothing is
--- put, and 4,096 is answered
-abbrev pub Told : Answer → List ℕ → List ℕ → ℕ → Type 0
-Told (bytes b) before after n = Put before 0 b after n
-Told unfit before after n = (after ≡ before) × (n ≡ 4096)
 
 -- a status is 0, or the refusal's number; where it is 0 the bytes that were written follow
 abbrev pub written : Writing → List ℕ → List ℕ

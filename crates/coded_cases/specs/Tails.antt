@@ -9,12 +9,12 @@ use lib.ListN.{length, getD, take, drop}
 use Rattle.bits.specs.Refusals.{numberOf}
 use Rattle.bits.specs.declared.Writing.{Writing}
 use Rattle.bits.specs.declared.Writing.the-variants as writing
+use Rattle.case_bytes.specs.Answers.{Answer, bytes, unfit}
 use Rattle.case_bytes.specs.Bytes.{lastBytes}
 use Rattle.tail.specs.Calls.{tailAnswer, tailLeaves, wordAnswer, wordLeaves}
-use Rattle.tail.specs.Encode.{encodeAnswer, encodeLeaves}
+use Rattle.tail_making.specs.Encode.{encodeAnswer, encodeLeaves}
 use Rattle.tail.specs.declared.Repairing.{Repairing}
 use Rattle.tail.specs.declared.Repairing.the-variants as repaired
-use Rattle.coded_cases.specs.Cases.{Answer, bytes, unfit}
 
 -- a status is 0, or the refusal's number
 abbrev pub statusOf : Writing → ℕ

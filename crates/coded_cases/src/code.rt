@@ -1,5 +1,6 @@
 // Kinds 1 to 4: CRC-16, scrambling and its inverse, the field.
-ghost use Rattle.coded_cases.specs.Cases.{Told, crcCase, scrambleCase, descrambleCase, fieldCase};
+ghost use Rattle.case_bytes.specs.Answers.{Told};
+ghost use Rattle.coded_cases.specs.Cases.{crcCase, scrambleCase, descrambleCase, fieldCase};
 use crate::written::put_written;
 use case_bytes::no_case;
 use case_bytes::put;

@@ -5,7 +5,7 @@ ghost use lib.ListN.{getD};
 ghost use Rattle.bits.specs.Bit.{tab};
 ghost use Rattle.case_bytes.specs.Bytes.{Put};
 ghost use Rattle.coded_cases.specs.Tails.{madeBytes, madeCase, repairing, repairLeaves, repairBytes, repairedBytes, repairedCase, repairCase, statusOf};
-ghost use Rattle.coded_cases.specs.Cases.{Told};
+ghost use Rattle.case_bytes.specs.Answers.{Told};
 use bits::Writing;
 use case_bytes::at;
 use case_bytes::no_case;

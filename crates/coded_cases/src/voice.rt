@@ -1,6 +1,7 @@
 // Kinds 8 to 11: a table, encoding, hard and soft decoding.
 ghost use Rattle.case_bytes.specs.Bytes.{Put};
-ghost use Rattle.coded_cases.specs.Cases.{Told, tableCase, encodeCase, decodeCase, softCase, spoken};
+ghost use Rattle.case_bytes.specs.Answers.{Told};
+ghost use Rattle.coded_cases.specs.Cases.{tableCase, encodeCase, decodeCase, softCase, spoken};
 use crate::written::put_written;
 use bits::Refusal;
 use case_bytes::no_case;

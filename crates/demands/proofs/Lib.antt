@@ -1,7 +1,7 @@
 pub mod RefusedSizes
 pub mod RefusedPushes
 pub mod RefusedFrames
-pub mod Carried
 pub mod Starred
 pub mod Payloads
+pub mod Locks
 pub mod Searching

@@ -17,14 +17,14 @@ use Rattle.journal.specs.declared.Body.{Body}
 use Rattle.journal.specs.declared.Body.the-variants.{Frame, Gap}
 use Rattle.journal.specs.declared.Entry.{Entry}
 use Rattle.journal.specs.declared.Reading.the-variants as reading
-use Rattle.merger.specs.Merging.{View, view, viewOf, isLate, isNear, heldOf, homeOf, orderOf, taken, filled, alone, noPosition, insertAt, PushStep, pushStep, putOf, pushOf}
-use Rattle.merger.specs.States.{PushGave}
+use Rattle.merger_rules.specs.Merging.{View, view, isLate, isNear, heldOf, homeOf, orderOf, taken, filled, alone, noPosition, insertAt, PushStep, pushStep, putOf, pushOf}
+use Rattle.merger.specs.States.{viewOf, PushGave}
 use Rattle.merger.specs.declared.AfterPush.{AfterPush}
-use Rattle.merger.specs.declared.Held.{Held}
+use Rattle.merger_rules.specs.declared.Held.{Held}
 use Rattle.merger.specs.declared.Merger.{Merger}
-use Rattle.merger.specs.declared.Position.{Position}
-use Rattle.merger.specs.declared.Pushed.{Pushed}
-use Rattle.merger.specs.declared.Pushed.the-variants.{Kept, Double, Late, Refused}
+use Rattle.merger_rules.specs.declared.Position.{Position}
+use Rattle.merger_rules.specs.declared.Pushed.{Pushed}
+use Rattle.merger_rules.specs.declared.Pushed.the-variants.{Kept, Double, Late, Refused}
 use Rattle.sync_rules.specs.declared.Head.{Head}
 use Rattle.demands.specs.Demand1.{test, badStream, highOffset, late, belongs, firstNumber, Refuses, MergerRefuses, saysLate, numberInMerging, numberInWriting, numberInReading, badRecord, envelopeTests, WritingRefuses, ReadingRefuses}
 

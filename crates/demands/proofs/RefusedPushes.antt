@@ -10,13 +10,15 @@ use lib.Dec.{leb, ltb}
 use lib.ListN.{length, take, drop, length-drop, drop-of-length-le}
 use Rattle.bits.specs.declared.Refusal.{Refusal}
 use Rattle.bits.specs.declared.Refusal.the-variants.{Dibit, FrameRoom, StreamEnd}
-use Rattle.sync.specs.Answers.{answerTo, pushOf, takes, PushedBy}
-use Rattle.sync.specs.Feeds.{FedOut, FedBy, FeedRule, fedOf}
-use Rattle.sync.specs.Steps.{headsOf}
+use Rattle.sync_steps.specs.Answers.{answerTo, pushOf, takes}
+use Rattle.sync.specs.Answers.{PushedBy}
+use Rattle.sync_steps.specs.Feeds.{FedOut, fedOf}
+use Rattle.sync.specs.Feeds.{FedBy, FeedRule}
+use Rattle.sync_steps.specs.Steps.{headsOf}
 use Rattle.sync.specs.View.{view}
 use Rattle.sync.specs.declared.Fed.{Fed}
-use Rattle.sync.specs.declared.Push.{Push}
-use Rattle.sync.specs.declared.Push.the-variants.{Taken, Refused}
+use Rattle.sync_steps.specs.declared.Push.{Push}
+use Rattle.sync_steps.specs.declared.Push.the-variants.{Taken, Refused}
 use Rattle.sync.specs.declared.Pushed.{Pushed}
 use Rattle.sync.specs.declared.Synchroniser.{Synchroniser}
 use Rattle.sync.proofs.Feeding.{feed-rules}

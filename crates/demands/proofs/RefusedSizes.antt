@@ -15,7 +15,7 @@ use Rattle.coding.specs.Calls.{sizeAnswer, afterDescramble, afterScramble}
 use Rattle.coding.specs.Scramble.{descrambled, scrambled}
 use Rattle.protected.specs.Table.{admits}
 use Rattle.tail.specs.Calls.{erasable, answerOf, writtenOver, tailAnswer, tailLeaves, wordAnswer, wordLeaves}
-use Rattle.tail.specs.Encode as making
+use Rattle.tail_making.specs.Encode as making
 use Rattle.tail.specs.Repair.{Answer, refused, repaired, repairOf}
 use Rattle.tail.specs.declared.Repairing.{Repairing}
 use Rattle.tail.specs.declared.Repairing.the-variants as repairing

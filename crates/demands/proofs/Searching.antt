@@ -10,9 +10,9 @@ use lib.IntN.{pos, _+ℤ_}
 use lib.ListN.{length, getD, take, drop, length-take}
 use lib.Seq.{getD-take}
 use Rattle.sync.specs.declared.Synchroniser.{Synchroniser}
-use Rattle.sync.specs.declared.Push.the-variants.{Taken}
+use Rattle.sync_steps.specs.declared.Push.the-variants.{Taken}
 use Rattle.sync.specs.View.{view}
-use Rattle.sync.specs.Answers.{answerTo}
+use Rattle.sync_steps.specs.Answers.{answerTo}
 use Rattle.sync.specs.Calls.{Call, History, stateOf, accepted, Got, handed, shownAs, streamOf, placeIn, lastGot, firstGot, gotInARow}
 use Rattle.sync.specs.Statements.{callsFollow, demandCalls}
 use Rattle.sync_rules.specs.Matching.{errors}
@@ -24,6 +24,7 @@ use Rattle.sync_rules.specs.Demand.{stream, sentBy}
 use Rattle.sync_rules.specs.Counts.{stateAfter, searched, everSoft, offsets, between, total}
 use Rattle.sync_rules.specs.Statements.{rules, Gaps, gapRule}
 use Rattle.demands.specs.Demand3.{New, frame, Exact, Demand3, Always, Statements}
+use Rattle.demands.proofs.Locks.{found-held}
 
 -- ---- a row of frames, one by one
 
@@ -187,6 +188,7 @@ module _ (follow : callsFollow) (rule : rules) (gap : gapRule) (s : Synchroniser
         balance = told .4;
         made = led;
         lock = rule xs .lock;
+        found = λ c p some w. found-held (stateOf s cs) c p (omega arith) w;
         soft = told .5;
       }
 

@@ -16,7 +16,7 @@ use Rattle.bits.specs.declared.Refusal.the-variants.{Table}
 use Rattle.coding.specs.Crc.{crcRun, crcStep}
 use Rattle.coding.specs.Scramble.{s, descrambled}
 use Rattle.field.specs.Field.{product}
-use Rattle.merger.proofs.Snaps.{snap-far, snap-one, snap-grid}
+use Rattle.merger_rules.proofs.Snaps.{snap-far, snap-one, snap-grid}
 use Rattle.protected.proofs.Admission.{admits-admitted, admitted-admits}
 use Rattle.protected.proofs.Examples.{stand-in-admitted, replaced-refused, last-bit}
 use Rattle.protected.specs.StandIn.{standIn}

@@ -3,7 +3,7 @@
 -- In this order: document 01's table 'Numbered refusals', each of its lines once, as a test; what it is to refuse by tests in an order; the number
 -- of each kind of answer; what each call refuses; and `Demand1`, a field a call: what its contract promises refuses so.
 -- A field speaks of exactly the definitions that the call's contract cites: coding::descramble ensures that it answers `sizeAnswer` and leaves
--- `afterDescramble`, Synchroniser::push ensures `PushedBy`. And src/calls.rt makes each call and promises the same of what it gave and left.
+-- `afterDescramble`, Synchroniser::push ensures `PushedBy`. And crate demand_calls makes each call and promises the same of what it gave and left.
 -- Where a name is from, the lines below say: Rattle.coding.specs.Calls is the file crates/coding/specs/Calls.antt, and what lies under `declared`
 -- is a type of the crate's src/.
 -- Inputs are not restricted: no call has a `requires` but its state's invariant, which every call that hands out a state ensures. What is lent
@@ -27,29 +27,30 @@ use Rattle.journal.specs.declared.Body.the-variants.{Frame, Gap}
 use Rattle.journal.specs.declared.Entry.{Entry}
 use Rattle.journal.specs.declared.Reading.{Reading}
 use Rattle.journal.specs.declared.Reading.the-variants as reading
-use Rattle.merger.specs.Merging.{isLate, isNear, heldOf, pushOf, viewOf}
-use Rattle.merger.specs.States.{PushGave}
+use Rattle.merger_rules.specs.Merging.{isLate, isNear, heldOf, pushOf}
+use Rattle.merger.specs.States.{viewOf, PushGave}
 use Rattle.merger.specs.declared.AfterPush.{AfterPush}
-use Rattle.merger.specs.declared.Clock.{Clock}
+use Rattle.merger_rules.specs.declared.Clock.{Clock}
 use Rattle.merger.specs.declared.Merger.{Merger}
-use Rattle.merger.specs.declared.Position.{Position}
-use Rattle.merger.specs.declared.Pushed.{Pushed as Merging}
-use Rattle.merger.specs.declared.Pushed.the-variants as merging
+use Rattle.merger_rules.specs.declared.Position.{Position}
+use Rattle.merger_rules.specs.declared.Pushed.{Pushed as Merging}
+use Rattle.merger_rules.specs.declared.Pushed.the-variants as merging
 use Rattle.protected.specs.Table.{Admitted, admits}
 use Rattle.sync.specs.Answers.{PushedBy}
-use Rattle.sync.specs.Feeds.{FedBy, fedOf, hardly, softly, unpacked}
-use Rattle.sync.specs.Steps.{headsOf}
+use Rattle.sync.specs.Feeds.{FedBy}
+use Rattle.sync_steps.specs.Feeds.{fedOf, hardly, softly, unpacked}
+use Rattle.sync_steps.specs.Steps.{headsOf}
 use Rattle.sync.specs.View.{view}
 use Rattle.sync.specs.declared.Fed.{Fed}
-use Rattle.sync.specs.declared.Push.{Push}
-use Rattle.sync.specs.declared.Push.the-variants as pushing
+use Rattle.sync_steps.specs.declared.Push.{Push}
+use Rattle.sync_steps.specs.declared.Push.the-variants as pushing
 use Rattle.sync.specs.declared.Pushed.{Pushed}
 use Rattle.sync.specs.declared.Synchroniser.{Synchroniser}
 use Rattle.sync_rules.specs.Pushes.{run}
 use Rattle.sync_rules.specs.State.{State, Input, hard}
 use Rattle.sync_rules.specs.declared.Head.{Head}
 use Rattle.tail.specs.Calls.{erasable, NotErasable, tailAnswer, tailLeaves, wordAnswer, wordLeaves}
-use Rattle.tail.specs.Encode as making
+use Rattle.tail_making.specs.Encode as making
 use Rattle.tail.specs.Repair.{Answer, refused, repaired, Repairs, repairOf}
 use Rattle.tail.specs.declared.Repairing.{Repairing}
 use Rattle.tail.specs.declared.Repairing.the-variants as repairing

@@ -63,7 +63,7 @@ pub record Demand2 : Type 0 where
       → Bytes payload → length envelope ≡ 48
       → decodeAnswer table (encodeLeaves table payload alternate envelope) ≡ accepted StageA 0 (cleared payload)
 
--- ---- the same of the calls themselves, made one after the other (src/speech.rt)
+-- ---- the same of the calls themselves, made one after the other (crate demand_calls)
 
 -- the answer r to decoding what a payload was encoded into
 abbrev pub ComesBack : List ℕ → List ℕ → List ℕ → Decoded → Type 0

@@ -10,10 +10,11 @@ use Prim.Native.Nat.{ℕ, suc, _+_, _-_, _*_, _≤_, _<_, _^_}
 use lib.IntN.{pos, _+ℤ_}
 use lib.ListN.{length, getD, take, drop}
 use Rattle.sync.specs.declared.Synchroniser.{Synchroniser}
-use Rattle.sync.specs.declared.Push.the-variants.{Taken}
+use Rattle.sync_steps.specs.declared.Push.the-variants.{Taken}
 use Rattle.sync.specs.View.{Valid, view}
-use Rattle.sync.specs.Answers.{answerTo}
+use Rattle.sync_steps.specs.Answers.{answerTo}
 use Rattle.sync.specs.Calls.{Call, History, stateOf, accepted, Got, handed, streamOf, placeIn, BeginsAt}
+use Rattle.sync.specs.Calls.{answerOf, Meets}
 use Rattle.sync_rules.specs.Matching.{locksAt, inPlace, errors}
 use Rattle.sync_rules.specs.State.{Input, start, pending, netSlip, bring}
 use Rattle.sync_rules.specs.Pushes.{search, drain}
@@ -98,6 +99,8 @@ pub record Always (s : Synchroniser) (calls : List Call) : Type 0 where
   -- which lead to this very state
   pub made : view (stateOf s calls) ≡ stateAfter (accepted calls)
   pub lock : LockRule (accepted calls) (lockSent (accepted calls) start [])
+  -- no call both takes and loses a lock: one more call that hands out a frame and hands back no lock, where a search begins, found a lock
+  pub found : (c : Call) → Meets (stateOf s calls) c → 0 < answerOf c .count → answerOf c .next .numbers .locked ≡ false → stateOf s calls .numbers .locked ≡ true
   -- the soft mark is never cleared: it is there once a soft push was made
   pub soft : view (stateOf s calls) .soft ≡ everSoft (accepted calls)
 

@@ -13,8 +13,8 @@ use Rattle.bits.specs.declared.Writing.the-variants as writing
 use Rattle.coding.specs.Crc.{crcOf}
 use Rattle.coding.specs.Scramble.{place, s, descrambled}
 use Rattle.field.specs.Field.{product}
-use Rattle.merger.specs.declared.Clock.the-variants.{At}
-use Rattle.merger.specs.Merging.{isLate, snapped}
+use Rattle.merger_rules.specs.declared.Clock.the-variants.{At}
+use Rattle.merger_rules.specs.Merging.{isLate, snapped}
 use Rattle.protected.specs.Convolution.{convolved}
 use Rattle.protected.specs.StandIn.{standIn}
 use Rattle.protected.specs.Table.{Admitted, count}

@@ -5,9 +5,6 @@ ghost use Rattle.demands.specs.Demand2.{Demand2};
 ghost use Rattle.demands.specs.Demand3.{Demand3, Statements};
 ghost use Rattle.demands.specs.Examples.{Holds, starred};
 
-mod calls; // demand 1 of the calls themselves
-pub mod speech; // demand 2 of the calls themselves
-
 // Demand 1: bad input is refused with its number from document 01, the state is the one before the call, lent memory keeps its bytes; a field a call.
 pub fn demand_one()
     ensures { λ _. ⌜ Demand1 ⌝ }

@@ -17,10 +17,11 @@ use Rattle.journal.specs.declared.Reading.the-variants.{Holds, Refused}
 use Rattle.journal.specs.Reading.{readOf}
 use Rattle.journal.specs.declared.Between.{Between}
 use Rattle.journal.specs.declared.Between.the-variants.{NoGap, Gap as OneGap}
-use Rattle.lines.specs.declared.Line.{Line}
+use Rattle.texts.specs.declared.Line.{Line}
+use Rattle.texts.specs.Text.{lineOf}
 use Rattle.lines.specs.declared.Shown.{Shown}
 use Rattle.lines.specs.declared.What.the-variants.{AFrame, AGap, NoRecord}
-use Rattle.lines.specs.Text.{lineOf, spaced, lineFeed, frameWords, gapText, refusedText}
+use Rattle.lines.specs.Text.{spaced, lineFeed, frameWords, gapText, refusedText}
 
 -- ` untried`, ` accepted` with the corrected bits, or ` refused`
 abbrev pub outcomeWords : Outcome → ℕ → List ℕ

@@ -1,4 +1,2 @@
-pub mod Decimal
 pub mod Text
 pub mod Entries
-pub mod Statements

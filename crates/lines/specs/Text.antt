@@ -1,19 +1,12 @@
 -- The text of each line, in ASCII.
 -- Assumes nothing.
-use mathlib.Core.Bool.{Bool, cond}
+use mathlib.Core.Bool.{Bool}
 use mathlib.Core.List.{List, [], _∷_, _++_}
-use Prim.Native.Nat.{ℕ, _-_, _/_, _%_}
-use lib.Dec.{ltb}
-use lib.ListN.{length, replicate, getD}
-use Rattle.io.specs.Digits.{glyph}
+use Prim.Native.Nat.{ℕ}
 use Rattle.bits.specs.Bit.{tab}
 use Rattle.journal.specs.Record.{bitOf}
-use Rattle.lines.specs.declared.Line.{Line}
-use Rattle.lines.specs.Decimal.{decimal}
-
--- the line that has this text
-unfoldable pub lineOf : List ℕ → Line
-lineOf t = record { size = length t; bytes = t ++ replicate (128 - length t) 0 }
+use Rattle.texts.specs.Decimal.{decimal}
+use Rattle.texts.specs.Text.{hexAt}
 
 -- a number behind a space
 abbrev pub spaced : ℕ → List ℕ
@@ -51,10 +44,6 @@ leftOutText late double passed =
     (108 ∷ 97 ∷ 116 ∷ 101 ∷ []) ++ spaced late
     ++ (32 ∷ 100 ∷ 111 ∷ 117 ∷ 98 ∷ 108 ∷ 101 ∷ []) ++ spaced double
     ++ (32 ∷ 112 ∷ 97 ∷ 115 ∷ 115 ∷ 101 ∷ 100 ∷ 32 ∷ 111 ∷ 118 ∷ 101 ∷ 114 ∷ []) ++ spaced passed ++ lineFeed
-
--- digit i of a payload in hexadecimal: two digits a byte, the high half first
-abbrev pub hexAt : List ℕ → ℕ → ℕ
-hexAt payload i = glyph (cond (ltb (i % 2) 1) (getD payload (i / 2) 0 / 16) (getD payload (i / 2) 0 % 16))
 
 -- `speech`, the frame's offset, its corrected bits, and its payload in 40 digits
 abbrev pub speechText : ℕ → ℕ → List ℕ → List ℕ

@@ -2,18 +2,14 @@
 ghost use mathlib.Core.Path.{_≡_};
 ghost use mathlib.Core.List.{List, _++_};
 ghost use Prim.Native.Nat.{ℕ, _+_, _≤_};
-ghost use Rattle.lines.specs.Text.{lineOf};
+ghost use Rattle.texts.specs.Text.{lineOf};
 ghost use Rattle.journal.specs.Gaps.{gapTo};
 ghost use Rattle.lines.specs.Entries.{outcomeWords, figuresText, shownBody, shownAs, shownRecord, betweenLine};
-use crate::Line;
 use crate::Shown;
 use crate::What;
-use crate::building::empty;
-use crate::building::frame_words;
-use crate::building::gap_line;
-use crate::building::refused_line;
-use crate::building::with_number;
-use crate::building::with_word;
+use crate::listing::frame_words;
+use crate::listing::gap_line;
+use crate::listing::refused_line;
 use bits::Refusal;
 use bits::number_of;
 use bits::wide;
@@ -24,6 +20,10 @@ use journal::Entry;
 use journal::Figures;
 use journal::Outcome;
 use journal::Reading;
+use texts::Line;
+use texts::empty;
+use texts::with_number;
+use texts::with_word;
 
 fn accepted_words(line: Line, corrected: u8) -> Line
     requires { ⌜ line .size ≤ 90 ⌝ }

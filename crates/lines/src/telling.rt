@@ -1,14 +1,15 @@
 // What goes to standard error: a refusal by its number, and how many frames of two merged recordings are not in the journal.
 ghost use mathlib.Core.Path.{_≡_};
 ghost use Rattle.bits.specs.Refusals.{numberOf};
-ghost use Rattle.lines.specs.Text.{lineOf, refusalText, leftOutText};
-use crate::Line;
-use crate::building::empty;
-use crate::building::with_number;
-use crate::building::with_word;
+ghost use Rattle.texts.specs.Text.{lineOf};
+ghost use Rattle.lines.specs.Text.{refusalText, leftOutText};
 use bits::Refusal;
 use bits::number_of;
 use bits::wide;
+use texts::Line;
+use texts::empty;
+use texts::with_number;
+use texts::with_word;
 
 // A refusal by its number.
 pub fn refusal_line(refusal: Refusal) -> Line

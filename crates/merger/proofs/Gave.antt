@@ -11,24 +11,26 @@ use lib.Seq.{length-take-le, getD-take, take-set-lt}
 use borrow.Author.Tests.{lt-ltb, le-ltb, le-leb, lt-leb}
 use Rattle.bits.specs.declared.Refusal.the-variants.{Stream, Offset, Positions}
 use Rattle.bits.proofs.Alls.{all-at}
-use Rattle.merger.specs.declared.Clock.{Clock}
-use Rattle.merger.specs.declared.Clock.the-variants.{At}
-use Rattle.merger.specs.declared.Held.{Held}
-use Rattle.merger.specs.declared.Freed.{Freed}
-use Rattle.merger.specs.declared.Position.{Position}
+use Rattle.merger_rules.specs.declared.Clock.{Clock}
+use Rattle.merger_rules.specs.declared.Clock.the-variants.{At}
+use Rattle.merger_rules.specs.declared.Held.{Held}
+use Rattle.merger_rules.specs.declared.Freed.{Freed}
+use Rattle.merger_rules.specs.declared.Position.{Position}
 use Rattle.merger.specs.declared.Merger.{Merger}
-use Rattle.merger.specs.declared.Choice.{Choice}
-use Rattle.merger.specs.declared.Choice.the-variants.{Neither, Chosen}
-use Rattle.merger.specs.declared.Pushed.{Pushed}
-use Rattle.merger.specs.declared.Pushed.the-variants.{Kept, Double, Late, Refused}
+use Rattle.merger_rules.specs.declared.Choice.{Choice}
+use Rattle.merger_rules.specs.declared.Choice.the-variants.{Neither, Chosen}
+use Rattle.merger_rules.specs.declared.Pushed.{Pushed}
+use Rattle.merger_rules.specs.declared.Pushed.the-variants.{Kept, Double, Late, Refused}
 use Rattle.merger.specs.declared.AfterPush.{AfterPush}
-use Rattle.merger.specs.declared.Released.{Released}
-use Rattle.merger.specs.declared.Released.the-variants.{Frame, PassedOver, NothingReady}
+use Rattle.merger_rules.specs.declared.Released.{Released}
+use Rattle.merger_rules.specs.declared.Released.the-variants.{Frame, PassedOver, NothingReady}
 use Rattle.merger.specs.declared.AfterRelease.{AfterRelease}
-use Rattle.merger.specs.Merging.{View, view, viewOf, isLate, homeOf, orderOf, insertAt, taken, filled, noPosition, alone, PushStep, pushStep, joinOf, openOf, putOf, pushOf, isReady, choiceOf, snapped, isAfter, freedOf, noneFreed, ReleaseStep, releaseStep, releasedAs, settle, releaseFrom, releaseOf}
-use Rattle.merger.specs.States.{belowOf, IsNear, FairChoice, Fair, keyAt, Nowhere, Sound, Valid, PushGave, ReleaseGave}
-use Rattle.merger.proofs.Homes.{key-take, stops, at-home, no-home, in-order}
-use Rattle.merger.proofs.Sound.{join-sound, open-sound, rest-sound, give-sound, fair-choose}
+use Rattle.merger_rules.specs.Merging.{View, view, isLate, homeOf, orderOf, insertAt, taken, filled, noPosition, alone, PushStep, pushStep, joinOf, openOf, putOf, pushOf, isReady, choiceOf, snapped, isAfter, freedOf, noneFreed, ReleaseStep, releaseStep, releasedAs, settle, releaseFrom, releaseOf}
+use Rattle.merger.specs.States.{viewOf, Valid, PushGave, ReleaseGave}
+use Rattle.merger_rules.specs.States.{belowOf, IsNear, FairChoice, Fair, keyAt, Nowhere, Sound}
+use Rattle.merger_rules.proofs.Homes.{stops, at-home, no-home, in-order}
+use Rattle.merger_steps.proofs.Search.{key-take}
+use Rattle.merger_rules.proofs.Sound.{join-sound, open-sound, rest-sound, give-sound, fair-choose}
 
 -- a record from one equation
 pub pushed-as : (m : Merger) (step : PushStep) (r : AfterPush) → step ≡ pushStep (r .answer) (viewOf (r .merger)) → Sound (step .next) → r .merger .n ≤ 16 → length (r .merger .positions) ≡ 16 → r .answer ≡ Kept → PushGave m step r

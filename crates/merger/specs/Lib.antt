@@ -1,11 +1,1 @@
-pub mod Merging
 pub mod States
-pub mod Scripts
-pub mod Offsets
-pub mod Counts
-pub mod Origins
-pub mod Source
-pub mod Grids
-pub mod Streams
-pub mod Rounds
-pub mod Statements

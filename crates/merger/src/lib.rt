@@ -1,55 +1,35 @@
 // The merger of two synchronisers' frames (frame.rs `Merger`; document 01, "Synchroniser and merger"), by value, and the envelope handed on.
 // It keeps each frame's figures, the number that the caller chose for it and the yes or no of the caller's check; no envelope.
 //
-// Read specs/Merging.antt for what the answers are, specs/Source.antt for the source's own loop, specs/Statements.antt for what is proved of them.
-// The code is split by topic: positions.rt (one position), order.rt (their order), clocks.rt (late, snapping), pushing.rt, releasing.rt.
+// What the answers are, and what is proved of them, is in the crate merger_rules (specs/Merging.antt, specs/Statements.antt).
+// What works on single positions, on the positions in order and on offsets is in the crate merger_steps.
 ghost use mathlib.Core.Path.{_≡_};
 ghost use mathlib.Core.Bool.{cond};
 ghost use mathlib.Core.List.{[]};
-ghost use Rattle.merger.specs.Merging.{heldOf, view, viewOf, pushOf, releaseOf};
-ghost use Rattle.merger.specs.States.{Valid, PushGave, ReleaseGave};
+ghost use Rattle.merger_rules.specs.Merging.{heldOf, view, pushOf, releaseOf};
+ghost use Rattle.merger.specs.States.{viewOf, Valid, PushGave, ReleaseGave};
 use bits::Refusal;
-use clocks::late;
-use positions::choose;
-use positions::freed;
-use positions::ready;
+pub use merger_rules::Choice;
+pub use merger_rules::Clock;
+pub use merger_rules::Free;
+pub use merger_rules::Freed;
+pub use merger_rules::Held;
+pub use merger_rules::Place;
+pub use merger_rules::Position;
+pub use merger_rules::Pushed;
+pub use merger_rules::Release;
+pub use merger_rules::Released;
+use merger_steps::choose;
+use merger_steps::freed;
+use merger_steps::late;
+use merger_steps::ready;
 use pushing::put;
 use releasing::first_out;
 use releasing::give;
 use sync_rules::Head;
 
-mod clocks;
-mod order;
-mod positions;
-mod pushing;
-mod releasing;
-pub mod theorems;
-
-// An offset, or none: what was released last, or how far a stream is settled.
-pub enum Clock {
-    Absent,
-    At(u64),
-}
-
-// A frame as the merger keeps it.
-pub struct Held {
-    pub figures: Head,
-    pub number: u64,
-    pub check: bool,
-}
-
-// A stream's place in a position.
-pub enum Place {
-    Empty,
-    Holds(Held),
-}
-
-// A position: the frames of the two streams that cover one transmission, each within 191 of the key.
-pub struct Position {
-    pub key: u64,
-    pub primary: Place,
-    pub alternate: Place,
-}
+mod pushing; // pushing.rt: a frame that is neither refused nor late
+mod releasing; // releasing.rt: a position that is ready
 
 // The first n positions are pending, in the order of their keys; what stands after them is stale and seen by no answer.
 pub struct Merger {
@@ -58,55 +38,15 @@ pub struct Merger {
     pub last: Clock,
 }
 
-// What a push answers. Its refusals are 7 (stream), 8 (offset) and 9 (positions).
-pub enum Pushed {
-    Kept,
-    Double,
-    Late,
-    Refused(Refusal),
-}
-
 pub struct AfterPush {
     pub answer: Pushed,
     pub merger: Merger,
-}
-
-// A frame handed on: its figures with the offset on the grid, its number, and a yes where it is the alternate's.
-pub struct Release {
-    pub figures: Head,
-    pub number: u64,
-    pub alternate: bool,
-}
-
-// What a release answers of the first position.
-pub enum Released {
-    Frame(Release),
-    PassedOver,
-    NothingReady,
-}
-
-// What a place gave back: the number of the frame that it held, which the caller may use again.
-pub enum Free {
-    Nothing,
-    Number(u64),
-}
-
-// The numbers that are free again: those of the position that was released or passed over, of both streams.
-pub struct Freed {
-    pub primary: Free,
-    pub alternate: Free,
 }
 
 pub struct AfterRelease {
     pub answer: Released,
     pub freed: Freed,
     pub merger: Merger,
-}
-
-// The choice between the two places of a position.
-pub enum Choice {
-    Neither,
-    Chosen(Held, bool),
 }
 
 impl Merger {

@@ -2,18 +2,19 @@
 ghost use mathlib.Core.Path.{_≡_};
 ghost use Prim.Native.Nat.{_^_, _≤_, _<_};
 ghost use lib.ListN.{take, getD};
-ghost use Rattle.merger.specs.Merging.{viewOf, noPosition, joinOf, openOf, putOf};
-ghost use Rattle.merger.specs.States.{IsNear, Nowhere, Valid, PushGave, belowOf};
+ghost use Rattle.merger_rules.specs.Merging.{noPosition, joinOf, openOf, putOf};
+ghost use Rattle.merger.specs.States.{viewOf, Valid, PushGave};
+ghost use Rattle.merger_rules.specs.States.{IsNear, Nowhere, belowOf};
 use crate::AfterPush;
 use crate::Held;
 use crate::Merger;
 use crate::Pushed;
-use crate::order::below;
-use crate::order::with_position;
-use crate::positions::is_taken;
-use crate::positions::opened;
-use crate::positions::with_frame;
 use bits::Refusal;
+use merger_steps::below;
+use merger_steps::is_taken;
+use merger_steps::opened;
+use merger_steps::with_frame;
+use merger_steps::with_position;
 
 // The frame belongs to the position at a place.
 pub(crate) fn join(m: Merger, at: usize, stream: usize, h: Held) -> AfterPush

@@ -2,8 +2,9 @@
 ghost use mathlib.Core.Path.{_≡_};
 ghost use Prim.Native.Nat.{_<_};
 ghost use lib.ListN.{take, drop};
-ghost use Rattle.merger.specs.Merging.{view, viewOf, settle};
-ghost use Rattle.merger.specs.States.{FairChoice, Valid, ReleaseGave};
+ghost use Rattle.merger_rules.specs.Merging.{view, settle};
+ghost use Rattle.merger.specs.States.{viewOf, Valid, ReleaseGave};
+ghost use Rattle.merger_rules.specs.States.{FairChoice};
 use crate::AfterRelease;
 use crate::Choice;
 use crate::Clock;
@@ -11,9 +12,9 @@ use crate::Freed;
 use crate::Merger;
 use crate::Release;
 use crate::Released;
-use crate::clocks::after;
-use crate::clocks::snap;
-use crate::order::without_first;
+use merger_steps::after;
+use merger_steps::snap;
+use merger_steps::without_first;
 use sync_rules::Head;
 
 // The merger without its first position.

@@ -14,13 +14,13 @@ use Rattle.bits.specs.Bit.{sum}
 use Rattle.bits.proofs.Conds.{cond-eq, cond-ne, cond-both}
 use Rattle.bits.proofs.Sums.{sum-ext, sum-zero}
 use Rattle.bits.proofs.Turns.{sum-last}
-use Rattle.merger.specs.Counts.{one, inPlace, inFree, pendingOf, inFreed}
-use Rattle.merger.specs.declared.Free.{Free}
-use Rattle.merger.specs.declared.Free.the-variants.{Nothing, Number}
-use Rattle.merger.specs.declared.Freed.{Freed}
-use Rattle.merger.specs.declared.Place.{Place}
-use Rattle.merger.specs.declared.Place.the-variants.{Empty, Holds}
-use Rattle.merger.specs.declared.Position.{Position}
+use Rattle.merger_rules.specs.Counts.{one, inPlace, inFree, pendingOf, inFreed}
+use Rattle.merger_rules.specs.declared.Free.{Free}
+use Rattle.merger_rules.specs.declared.Free.the-variants.{Nothing, Number}
+use Rattle.merger_rules.specs.declared.Freed.{Freed}
+use Rattle.merger_rules.specs.declared.Place.{Place}
+use Rattle.merger_rules.specs.declared.Place.the-variants.{Empty, Holds}
+use Rattle.merger_rules.specs.declared.Position.{Position}
 use Rattle.merging.specs.Accounts.{bitAt, used, Small, cleared, countFree, countFreed}
 
 -- ---- sums over the slots

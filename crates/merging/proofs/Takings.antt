@@ -8,31 +8,31 @@ use native.Mathlib.Omega.{arith}
 use lib.Dec.{eqb}
 use lib.ListN.{length, getD, set, length-set}
 use Rattle.bits.proofs.Conds.{cond-both}
-use Rattle.merger.specs.Counts.{inFree, pendingOf, releasedOf, one, keptBy, keptOf, inFreed, freedIn}
-use Rattle.merger.specs.Merging.{View, viewOf, pushOf, isReady, choiceOf, freedOf, snapped, isAfter, ReleaseStep, settle, releaseFrom, releaseOf}
-use Rattle.merger.specs.Scripts.{push, release, given, releases}
-use Rattle.merger.specs.States.{Valid, PushGave, ReleaseGave}
+use Rattle.merger_rules.specs.Counts.{inFree, pendingOf, releasedOf, one, keptBy, keptOf, inFreed, freedIn}
+use Rattle.merger_rules.specs.Merging.{View, pushOf, isReady, choiceOf, freedOf, snapped, isAfter, ReleaseStep, settle, releaseFrom, releaseOf}
+use Rattle.merger.specs.States.{viewOf, Valid, PushGave, ReleaseGave}
+use Rattle.merger_rules.specs.Scripts.{push, release, given, releases}
 use Rattle.merger.specs.declared.AfterPush.{AfterPush}
 use Rattle.merger.specs.declared.AfterRelease.{AfterRelease}
-use Rattle.merger.specs.declared.Choice.{Choice}
-use Rattle.merger.specs.declared.Choice.the-variants.{Neither, Chosen}
-use Rattle.merger.specs.declared.Clock.{Clock}
-use Rattle.merger.specs.declared.Free.{Free}
-use Rattle.merger.specs.declared.Free.the-variants.{Nothing, Number}
-use Rattle.merger.specs.declared.Freed.{Freed}
-use Rattle.merger.specs.declared.Held.{Held}
+use Rattle.merger_rules.specs.declared.Choice.{Choice}
+use Rattle.merger_rules.specs.declared.Choice.the-variants.{Neither, Chosen}
+use Rattle.merger_rules.specs.declared.Clock.{Clock}
+use Rattle.merger_rules.specs.declared.Free.{Free}
+use Rattle.merger_rules.specs.declared.Free.the-variants.{Nothing, Number}
+use Rattle.merger_rules.specs.declared.Freed.{Freed}
+use Rattle.merger_rules.specs.declared.Held.{Held}
 use Rattle.merger.specs.declared.Merger.{Merger}
-use Rattle.merger.specs.declared.Position.{Position}
-use Rattle.merger.specs.declared.Pushed.{Pushed}
-use Rattle.merger.specs.declared.Pushed.the-variants.{Kept, Double, Late, Refused}
+use Rattle.merger_rules.specs.declared.Position.{Position}
+use Rattle.merger_rules.specs.declared.Pushed.{Pushed}
+use Rattle.merger_rules.specs.declared.Pushed.the-variants.{Kept, Double, Late, Refused}
 use Rattle.bits.specs.declared.Refusal.{Refusal}
 use Rattle.sync.specs.View.{view}
 use Rattle.sync.specs.declared.Synchroniser.{Synchroniser}
 use Rattle.merging.specs.Recordings.{Sound}
-use Rattle.merger.specs.declared.Release.{Release}
-use Rattle.merger.specs.declared.Released.{Released}
-use Rattle.merger.specs.declared.Released.the-variants.{Frame, PassedOver, NothingReady}
-use Rattle.merger.proofs.Counting.{balanced, released-freed}
+use Rattle.merger_rules.specs.declared.Release.{Release}
+use Rattle.merger_rules.specs.declared.Released.{Released}
+use Rattle.merger_rules.specs.declared.Released.the-variants.{Frame, PassedOver, NothingReady}
+use Rattle.merger_rules.proofs.Counting.{balanced, released-freed}
 use Rattle.merger.proofs.Gave.{len}
 use Rattle.merging.specs.declared.Work.{Work}
 use Rattle.merging.specs.Accounts.{bitAt, used, Small, cleared, countFree, countFreed, waiting, Accounted, TookOut}

@@ -6,12 +6,11 @@ use mathlib.Core.List.{List}
 use Prim.Native.Nat.{ℕ, _+_, _<_}
 use lib.ListN.{length, getD, set}
 use Rattle.bits.specs.Bit.{sum}
-use Rattle.merger.specs.Counts.{pendingOf, inFreed}
-use Rattle.merger.specs.Merging.{viewOf}
-use Rattle.merger.specs.States.{Valid}
-use Rattle.merger.specs.declared.Free.{Free}
-use Rattle.merger.specs.declared.Free.the-variants.{Nothing, Number}
-use Rattle.merger.specs.declared.Freed.{Freed}
+use Rattle.merger_rules.specs.Counts.{pendingOf, inFreed}
+use Rattle.merger.specs.States.{viewOf, Valid}
+use Rattle.merger_rules.specs.declared.Free.{Free}
+use Rattle.merger_rules.specs.declared.Free.the-variants.{Nothing, Number}
+use Rattle.merger_rules.specs.declared.Freed.{Freed}
 use Rattle.merger.specs.declared.Merger.{Merger}
 use Rattle.merging.specs.declared.Work.{Work}
 use Rattle.merging.specs.declared.offering.Answer.{Answer}

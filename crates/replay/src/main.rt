@@ -1,5 +1,5 @@
 // Runs a case list from standard input over the libraries and says where an answer is not the expected one. docs/REPLAY.md has the list's format.
-// list.rt reads the list, tally.rt counts, *_cases.rt run the cases of their kinds by the crates `coded_cases` and `stream_cases`, report.rt prints.
+// list.rt reads the list, tally.rt counts, *_cases.rt run the cases of their kinds by the crates `coded_cases`, `merged_cases` and `stream_cases`, report.rt prints.
 ghost use Rattle.sync.specs.View as state;
 ghost use Rattle.merger.specs.States as states;
 use list::filled;

@@ -3,8 +3,8 @@ ghost use Rattle.merger.specs.States.{Valid};
 use crate::list::case_at;
 use crate::tally::Tally;
 use crate::tally::judged;
+use merged_cases::Merged;
 use merger::Merger;
-use stream_cases::Merged;
 
 fn is_kind(kind: u8) -> bool {
     match kind {
@@ -23,8 +23,8 @@ fn answer(kind: u8, m: Merger, input: &[u8], out: &mut [u8]) -> Merged
             size: 0,
             merger: Merger::new(),
         },
-        16 => stream_cases::merger_pushed(m, input, out),
-        _ => stream_cases::released(m, input, out),
+        16 => merged_cases::merger_pushed(m, input, out),
+        _ => merged_cases::released(m, input, out),
     }
 }
 

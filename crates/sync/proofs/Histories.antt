@@ -1,26 +1,25 @@
 -- Demand 3 over the calls: a history of calls follows the rules, and so the demand over the rules is one over the calls.
 -- Assumes nothing.
 use mathlib.Core.Path.{_≡_, refl, sym, ap, ap₂, _∙_, subst}
-use mathlib.Core.Logic.{_⊎_, inl, inr}
+use mathlib.Core.Logic.{inl, inr}
 use mathlib.Core.List.{List, [], _∷_, _++_, append-assoc, append-nil, map}
-use mathlib.Core.Bool.{Bool, true, false, cond, true≢false}
+use mathlib.Core.Bool.{Bool, true, false, cond}
 use Prim.Native.Nat.{ℕ, zero, suc, _+_, _-_, _*_, _≤_, _<_, _^_}
 use native.Mathlib.Omega.{arith}
-use borrow.Author.Tests.{ltb-true, ltb-false, ne-eqb, eq-eqb, eqb-true, eqb-false}
+use borrow.Author.Tests.{ltb-false, eqb-true, eqb-false}
 use lib.Dec.{eqb, leb, ltb}
-use lib.ListN.{length, getD, take, drop, length-append}
+use lib.ListN.{length, getD, take, drop}
 use Rattle.sync.specs.declared.Synchroniser.{Synchroniser}
-use Rattle.sync.specs.declared.numbers.Numbers.{Numbers}
 use Rattle.sync.specs.declared.Pushed.{Pushed}
 use Rattle.sync_rules.specs.declared.Head.{Head}
 use Rattle.sync.specs.declared.Fed.{Fed}
-use Rattle.sync.specs.View.{Valid, viewOf, view}
-use Rattle.sync.specs.Steps.{headOf, headsOf}
-use Rattle.sync.specs.Answers.{answerTo, pushOf, takes, PushedBy}
-use Rattle.bits.specs.declared.Refusal.{Refusal}
+use Rattle.sync.specs.View.{Valid, view}
+use Rattle.sync_steps.specs.Steps.{headOf, headsOf}
+use Rattle.sync.specs.Answers.{PushedBy}
+use Rattle.sync_steps.specs.Answers.{answerTo, pushOf, takes}
 use Rattle.bits.specs.declared.Refusal.the-variants.{Dibit, FrameRoom, StreamEnd}
-use Rattle.sync.specs.declared.Push.{Push}
-use Rattle.sync.specs.declared.Push.the-variants.{Taken, Refused}
+use Rattle.sync_steps.specs.declared.Push.{Push}
+use Rattle.sync_steps.specs.declared.Push.the-variants.{Taken, Refused}
 use Rattle.sync_rules.specs.Matching.{errors, locksAt, inPlace}
 use Rattle.sync_rules.specs.State.{State, Input, start, hard, pending, bring}
 use Rattle.sync_rules.specs.Frames.{Frame}
@@ -28,15 +27,13 @@ use Rattle.sync_rules.specs.Pushes.{Out, search, drain, step, run}
 use Rattle.sync_rules.specs.Room.{bytesOf, laid}
 use Rattle.sync_rules.specs.Demand.{stream, FirstLock, Begins, Loses, placeOf, sentBy, lastOffset, firstOffset, Figures, figures, inARow, Demand3}
 use Rattle.sync.specs.Calls.{Call, pushing, feeding, answerOf, leftBy, Meets, made, madeBy, History, stateOf, accepted, Got, slots, handed, shownAs, placeIn, BeginsAt, lastGot, firstGot, gotInARow}
-use Rattle.sync.specs.Statements.{Follows, callsFollow, DemandCalls, demandCalls}
-use Rattle.bits.proofs.Conds.{cond-cases}
-use Rattle.bits.proofs.Tests.{cond-yes, cond-no}
-use Rattle.sync.proofs.Finds.{pending-is}
-use Rattle.sync.proofs.Rings.{length-ring}
-use Rattle.sync_rules.proofs.Hunts.{run-next, run-sent, stream-append}
+use Rattle.sync.specs.Statements.{Follows, callsFollow, demandCalls}
+use Rattle.sync_steps.proofs.Finds.{pending-is}
+use Rattle.sync_rules.proofs.Hunts.{run-next, run-sent}
 use Rattle.sync_rules.proofs.Rides.{no-lock}
 use Rattle.sync_rules.proofs.Demands.{demand-three}
-use Rattle.sync.specs.Feeds.{FedOut, oneMore, unlessSent, unlessRefused, fedOf, FedBy, FeedRule}
+use Rattle.sync.specs.Feeds.{FedBy, FeedRule}
+use Rattle.sync_steps.specs.Feeds.{FedOut, oneMore, unlessSent, unlessRefused, fedOf}
 use Rattle.sync.proofs.Feeding.{feed-rules}
 use Rattle.sync.proofs.Slots.{none-fit, Fit, drain-fit, drain-most, read-slots}
 
@@ -379,7 +376,7 @@ demand-calls s v e before after h b =
     let eF : handed before ≡ shownAs (sentBy [] A) = f .sent ∙ ap (λ (z : State). shownAs (run A z .sent)) e in
     let eG : handed after ≡ shownAs (sentBy A B) = g .sent ∙ ap (λ (z : State). shownAs (run B z .sent)) m in
     let eI : accepted (before ++ after) ≡ A ++ B = accepted-append before after in
-    let eP : placeIn s before ≡ placeOf A = ap (λ (n : ℕ). length (stream A) - n) (sym (pending-is (stateOf s before)) ∙ ap (λ (z : State). length (pending z)) m) in
+    let eP : placeIn s before ≡ placeOf A = ap (λ (n : ℕ). length (stream A) - n) (sym (pending-is (stateOf s before .bits) (stateOf s before .reliabilities) (stateOf s before .numbers)) ∙ ap (λ (z : State). length (pending z)) m) in
     let d : Shape (A ++ B) (placeOf A) (shownAs (sentBy [] A)) (shownAs (sentBy A B)) = shaped A B (demand-three A B (begins s v e before (H .0) b)) in
     let d1 : Shape (accepted (before ++ after)) (placeOf A) (shownAs (sentBy [] A)) (shownAs (sentBy A B)) = subst (λ (I : List Input). Shape I (placeOf A) (shownAs (sentBy [] A)) (shownAs (sentBy A B))) (sym eI) d in
     let d2 : Shape (accepted (before ++ after)) (placeIn s before) (shownAs (sentBy [] A)) (shownAs (sentBy A B)) = subst (λ (P : ℕ). Shape (accepted (before ++ after)) P (shownAs (sentBy [] A)) (shownAs (sentBy A B))) (sym eP) d1 in

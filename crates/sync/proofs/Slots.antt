@@ -1,14 +1,12 @@
 -- What the caller reads in the room's slots.
 -- Assumes nothing.
-use mathlib.Core.Path.{_≡_, refl, sym, ap, ap₂, _∙_, subst}
+use mathlib.Core.Path.{_≡_, refl, sym, ap, ap₂, _∙_}
 use mathlib.Core.List.{List, [], _∷_, _++_, append-assoc, map}
-use mathlib.Core.Bool.{Bool, true, false, _&&_, cond}
-use Prim.Native.Nat.{ℕ, zero, suc, _+_, _-_, _*_, _≤_, _<_, min}
+use Prim.Native.Nat.{ℕ, zero, suc, _+_, _*_, _≤_}
 use native.Mathlib.Omega.{arith}
-use lib.Dec.{eqb}
 use lib.ListN.{length, take, drop, length-append, length-take, take-append-drop}
 use lib.Seq.{sets, sets-eq, length-sets, take-at, drop-at, length-take-le}
-use Rattle.sync.specs.Steps.{headOf}
+use Rattle.sync_steps.specs.Steps.{headOf}
 use Rattle.sync_rules.specs.Matching.{inPlace}
 use Rattle.sync_rules.specs.State.{State, pending, counted}
 use Rattle.sync_rules.specs.Frames.{Frame, Sent, cut, frameAt, sendAt, sendShifted, send, ready, follow, frontMove, secondShift, secondAt, thirdShift, thirdAt}
@@ -17,7 +15,7 @@ use Rattle.sync_rules.specs.Room.{bytesOf, laid}
 use Rattle.sync.specs.Calls.{Got, slots, shownAs}
 use Rattle.bits.proofs.Conds.{cond-cases}
 use Rattle.sync_rules.proofs.Windows.{take-arrived}
-use Rattle.sync.proofs.Rooms.{length-bytesOf}
+use Rattle.sync_steps.proofs.Rooms.{length-bytesOf}
 
 -- ---- a frame fits its slot
 cut-few : (xs : List ℕ) (p q : ℕ) → length (cut xs p q) ≤ 384

@@ -1,46 +1,19 @@
--- The answer to a push: its tests in their order, and what a push does that is taken or refused.
+-- What a push hands back, by its answer and by what it then does.
 -- Assumes nothing.
 use mathlib.Core.Path.{_≡_}
-use mathlib.Core.List.{List, []}
-use mathlib.Core.Bool.{cond}
-use Prim.Native.Nat.{ℕ, _^_}
-use lib.Dec.{leb, ltb}
+use mathlib.Core.List.{List}
+use Prim.Native.Nat.{ℕ}
 use lib.ListN.{length}
-use Rattle.bits.specs.declared.Refusal.{Refusal}
-use Rattle.bits.specs.declared.Refusal.the-variants.{Dibit, FrameRoom, StreamEnd}
-use Rattle.sync.specs.declared.frames.Drained.{Drained}
-use Rattle.sync.specs.declared.Push.{Push}
-use Rattle.sync.specs.declared.Push.the-variants.{Taken, Refused}
+use Rattle.sync_steps.specs.declared.frames.Drained.{Drained}
+use Rattle.sync_steps.specs.declared.Push.{Push}
 use Rattle.sync.specs.declared.Pushed.{Pushed}
 use Rattle.sync.specs.declared.Synchroniser.{Synchroniser}
 use Rattle.sync.specs.View.{view, Valid}
-use Rattle.sync.specs.Steps.{headsOf}
-use Rattle.sync_rules.specs.State.{State, Input}
-use Rattle.sync_rules.specs.Pushes.{Out, step}
+use Rattle.sync_steps.specs.Steps.{headsOf}
+use Rattle.sync_rules.specs.State.{Input}
 use Rattle.sync_rules.specs.Room.{laid}
-
--- "pushes test 1, 2, 3": a dibit above 3, a room below 1,296 bytes, 2^40 dibits already taken
-unfoldable pub answerBy : (room dibit taken : ℕ) → Push
-answerBy room dibit taken =
-    cond (ltb 3 dibit) (Refused Dibit)
-    (cond (ltb room 1296) (Refused FrameRoom)
-    (cond (leb (2 ^ 40) taken) (Refused StreamEnd) Taken))
-
--- of the push x on the state m
-unfoldable pub answerTo : ℕ → Input → State → Push
-unfolding answerBy
-answerTo room x m = answerBy room (x .dibit) (m .taken)
-
--- what the push x then does to the state m: "A refused call returns only the number and writes nowhere"
-unfoldable pub pushOf : Push → Input → State → Out
-unfolding step
-pushOf Taken x m = step x m
-pushOf (Refused f) x m = record { sent = []; next = m }
-
--- how many pushes were made: 1, or 0 of a refused one
-unfoldable pub takes : Push → ℕ
-takes Taken = 1
-takes (Refused f) = 0
+-- passed on: the tests of a push in their order, and what a push does that is taken or refused
+unfoldable pub use Rattle.sync_steps.specs.Answers.{answerBy, answerTo, pushOf, takes}
 
 -- the answer r to the push x on the synchroniser s, and the room's bytes before and after
 pub record PushedBy (room room′ : List ℕ) (s : Synchroniser) (x : Input) (r : Pushed) : Type 0 where

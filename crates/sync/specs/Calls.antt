@@ -4,18 +4,19 @@ use mathlib.Core.Path.{_≡_}
 use mathlib.Core.Logic.{_⊎_}
 use mathlib.Core.List.{List, [], _∷_, _++_}
 use mathlib.Core.Bool.{true, false}
-use Prim.Native.Nat.{ℕ, zero, suc, _+_, _-_, _*_, _≤_, _<_}
+use Prim.Native.Nat.{ℕ, zero, suc, _+_, _-_, _*_, _<_}
 use lib.ListN.{length, take, drop}
 use Rattle.sync.specs.declared.Synchroniser.{Synchroniser}
-use Rattle.sync.specs.declared.Push.{Push}
-use Rattle.sync.specs.declared.Push.the-variants.{Taken, Refused}
+use Rattle.sync_steps.specs.declared.Push.{Push}
+use Rattle.sync_steps.specs.declared.Push.the-variants.{Taken, Refused}
 use Rattle.sync.specs.declared.Pushed.{Pushed}
 use Rattle.sync.specs.declared.Fed.{Fed}
 use Rattle.sync_rules.specs.declared.Head.{Head}
-use Rattle.sync.specs.View.{Valid, view}
-use Rattle.sync.specs.Steps.{headOf}
+use Rattle.sync.specs.View.{view}
+use Rattle.sync_steps.specs.Steps.{headOf}
 use Rattle.sync.specs.Answers.{PushedBy}
-use Rattle.sync.specs.Feeds.{fedOf, FedBy}
+use Rattle.sync.specs.Feeds.{FedBy}
+use Rattle.sync_steps.specs.Feeds.{fedOf}
 use Rattle.sync_rules.specs.Matching.{errors}
 use Rattle.sync_rules.specs.State.{Input}
 use Rattle.sync_rules.specs.Frames.{Frame}

@@ -1,6 +1,4 @@
-pub mod Ring
 pub mod View
-pub mod Steps
 pub mod Answers
 pub mod Feeds
 pub mod Calls

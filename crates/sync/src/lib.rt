@@ -1,49 +1,36 @@
 // The synchroniser: dibits in, frames out.
 // Each push takes the state by value and hands back the next one beside the heads of its frames; envelopes and reliabilities go into the lent room.
+// What a push does to the rings and the numbers of a state is in the crate `sync_steps`.
 ghost use mathlib.Core.Path.{_≡_};
 ghost use mathlib.Core.Bool.{true, false};
 ghost use Prim.Native.Nat.{_^_, _<_};
 ghost use lib.IntN.{subℕ};
 ghost use lib.ListN.{length, drop};
 ghost use Rattle.sync.specs.View.{Valid, view};
-ghost use Rattle.sync.specs.Steps.{inputOf};
+ghost use Rattle.sync_steps.specs.Steps.{inputOf};
 ghost use Rattle.sync.specs.Answers.{PushedBy, handedOf};
 ghost use Rattle.sync.specs.Feeds.{FedBy, fedOf, hardly, softly, unpacked, fedWith, feedRules};
 ghost use Rattle.sync_rules.specs.State.{start, hard, pending, slips, netSlip};
 ghost use Rattle.sync_rules.specs.Demand.{demand3};
 ghost use Rattle.sync.specs.Statements.{callsFollow, demandCalls};
 ghost use Rattle.sync_rules.specs.Statements.{rules};
-use bits::Refusal;
 use sync_rules::Head;
-
-mod markers; // markers.rt: reading the ring of bits
-mod numbers; // numbers.rt: the numbers of a state
-mod room; // room.rt: writing a frame into the lent room
-mod frames; // frames.rt: one frame, and up to three of them
-mod pushes; // pushes.rt: the parts of a push
-mod feeds; // feeds.rt: many pushes into lent rings
-
-use feeds::Into;
-use feeds::Source;
-use feeds::feed_into;
-use frames::Drained;
-use frames::nothing;
-use numbers::Numbers;
-use numbers::appended;
-use pushes::Given;
-use pushes::answer_to;
-use pushes::enough;
-use pushes::hard_given;
-use pushes::made;
-use pushes::put;
-use pushes::sends;
-use pushes::soft_given;
-
-// The answer to a push.
-pub enum Push {
-    Taken,
-    Refused(Refusal),
-}
+use sync_steps::Drained;
+use sync_steps::Given;
+use sync_steps::Into;
+use sync_steps::Numbers;
+pub use sync_steps::Push;
+use sync_steps::Source;
+use sync_steps::answer_to;
+use sync_steps::appended;
+use sync_steps::enough;
+use sync_steps::feed_into;
+use sync_steps::hard_given;
+use sync_steps::made;
+use sync_steps::nothing;
+use sync_steps::put;
+use sync_steps::sends;
+use sync_steps::soft_given;
 
 // The rings of held bits and of their reliabilities, and the numbers that say where in them the held bits lie.
 pub struct Synchroniser {

@@ -1,9 +1,5 @@
 pub mod ErasedPlaces
 pub mod Searching
 pub mod Outcome
-pub mod Linear
-pub mod Registers
-pub mod Written
-pub mod Encoding
 pub mod Called
 pub mod SixErasures

@@ -1,29 +1,18 @@
 -- The repair's answer, from its two halves: where the tail may be wrong, and what it is changed into there.
 -- Assumes nothing.
 use mathlib.Core.Bool.{Bool, true, false, false≢true}
-use mathlib.Core.List.{List, [], _∷_}
-use mathlib.Core.Path.{_≡_, refl, sym, ap, subst, _∙_}
-use Prim.Native.Nat.{ℕ, suc, _<_, _≤_}
+use mathlib.Core.List.{List, []}
+use mathlib.Core.Path.{_≡_, sym, ap, subst, _∙_}
+use Prim.Native.Nat.{ℕ, _<_, _≤_}
 use native.Mathlib.Omega.{arith}
-use lib.Dec.{eqb}
 use lib.ListN.{length, getD}
-use borrow.Author.Tests.{eq-eqb}
 use Rattle.bits.specs.Bit.{Bytes, tab}
 use Rattle.bits.proofs.Tabs.{tab-at}
-use Rattle.tail_steps.specs.Code.{syndrome, Codeword, among, oneIf, wrongFrom, wrong}
+use Rattle.tail_steps.specs.Code.{syndrome, Codeword, wrong}
 use Rattle.tail_steps.specs.Steps.{Located, Corrected}
+use Rattle.tail_steps.proofs.Loops.{wrong-self}
 use Rattle.tail.specs.Repair.{refused, repaired, Repairs, repairOf}
 use Rattle.tail.proofs.Searching.{is-repair}
-
--- a word differs from itself nowhere
-one-same : (a b : Bool) (n : ℕ) → b ≡ true → oneIf a b n ≡ n
-one-same true b n e = refl
-one-same false true n e = refl
-one-same false false n e = absurd (false≢true e)
-
-pub wrong-self : (i : ℕ) (es t : List ℕ) → wrongFrom i es t t ≡ 0
-wrong-self i es [] = refl
-wrong-self i es (x ∷ t) = one-same (among i es) (eqb x x) (wrongFrom (suc i) es t t) (eq-eqb x x refl) ∙ wrong-self (suc i) es t
 
 -- six zero syndromes
 pub codeword : (t s : List ℕ) → length t ≡ 14 → Bytes t → s ≡ tab 6 (syndrome t) → ((i : ℕ) → i < 6 → getD s i 0 ≡ 0) → Codeword t

@@ -1,4 +1,3 @@
 pub mod Repair
 pub mod Calls
-pub mod Encode
 pub mod Statements

@@ -1,21 +1,18 @@
--- What holds of the definitions: the repair means what document 01 says, and the tail that is made is the codeword.
+-- What holds of the definitions: the repair means what document 01 says.
 -- Assumes nothing.
 use mathlib.Core.Path.{_≡_}
 use mathlib.Core.Bool.{true, false}
 use mathlib.Core.List.{List, []}
 use Prim.Native.Nat.{ℕ, _≤_}
-use lib.ListN.{length, take, drop}
+use lib.ListN.{length, take}
 use Rattle.bits.specs.Bit.{Bytes}
-use Rattle.bits.specs.BigEndian.{bigEndian}
 use Rattle.bits.specs.Refusals.{numberOf}
 use Rattle.bits.specs.declared.Refusal.{Refusal}
 use Rattle.bits.specs.declared.Refusal.the-variants.{Size, Erasure, Tail}
-use Rattle.coding.specs.Crc.{crcOf}
 use Rattle.tail_steps.specs.Code.{Codeword, wrong, Near}
 use Rattle.tail.specs.declared.Repairing.the-variants.{Repaired, Refused}
 use Rattle.tail.specs.Repair.{Answer, repaired, Repairs, repairOf}
 use Rattle.tail.specs.Calls.{erasable, NotErasable, tailAnswer, tailLeaves, wordLeaves}
-use Rattle.tail.specs.Encode.{generatorOf, rootProduct, tailOf, encodeLeaves}
 
 pub record RepairLaws : Type 0 where
   -- the function is the meaning: what it answers is a repair, and no other answer is
@@ -43,13 +40,3 @@ pub record RepairLaws : Type 0 where
   pub front : (es w : List ℕ) → take 28 (wordLeaves es w) ≡ take 28 w
   -- document 01's numbers
   pub numbers : (numberOf Size ≡ 5) × (numberOf Tail ≡ 10) × (numberOf Erasure ≡ 11)
-
-pub record EncodeLaws : Type 0 where
-  -- the generator is the product of the six factors
-  pub generator : rootProduct 6 ≡ generatorOf
-  -- the tail made of six bytes is a codeword, begins with them and their checksum, and is the only one
-  pub code : (d : List ℕ) → length d ≡ 6 → Bytes d → Codeword (tailOf d)
-  pub begins : (d : List ℕ) → length d ≡ 6 → (take 6 (tailOf d) ≡ d) × (take 2 (drop 6 (tailOf d)) ≡ bigEndian 2 (crcOf d))
-  pub only : (d c : List ℕ) → length d ≡ 6 → Bytes d → Codeword c → take 8 c ≡ take 8 (tailOf d) → c ≡ tailOf d
-  -- bytes 0 to 33 of a word are kept
-  pub front : (w : List ℕ) → take 34 (encodeLeaves w) ≡ take 34 w

@@ -1,4 +1,4 @@
-// A lent tail: the test of the erased places, the copy out, and the copy back.
+// A lent tail: the test of the erased places, the copy out, and the repair written over it.
 ghost use mathlib.Core.Path.{_≡_};
 ghost use mathlib.Core.Bool.{true};
 ghost use lib.ListN.{length};
@@ -7,6 +7,7 @@ ghost use Rattle.tail.specs.Repair.{repairOf};
 ghost use Rattle.tail.specs.Calls.{erasable, answerOf, writtenOver};
 use crate::Repairing;
 use crate::by_value::repair_by;
+use tail_making::put_back;
 use tail_steps::among_from;
 
 // At most six places, each at most 13, and none given twice?
@@ -42,18 +43,6 @@ fn copied(tail: &[u8]) -> [u8; 14]
         i += 1;
     }
     out
-}
-
-// Fourteen bytes written back.
-pub(crate) fn put_back(tail: &mut [u8], c: [u8; 14])
-    requires { ⌜ length (now tail) ≡ 14 ⌝ }
-    ensures { λ r. ⌜ now (tail .exit) ≡ c ⌝ }
-{
-    let mut i: usize = 0;
-    while i < 14 {
-        tail[i] = c[i];
-        i += 1;
-    }
 }
 
 // The repair of fourteen lent bytes: they are written only once a codeword has been found.

@@ -1,21 +1,19 @@
-// The tail of a word: fourteen bytes, eight of them free, with the roots 2^0 to 2^5. Its repair, with or without erased places, and its making.
-// The definitions are in specs/ (Repair.antt, Calls.antt, Encode.antt), what they mean in specs/Statements.antt; the steps of the repair are
-// the crate `tail_steps`. The field's two tables are made once at the top of each call and lent to everything below.
+// The tail of a word: fourteen bytes, eight of them free, with the roots 2^0 to 2^5, and its repair, with or without erased places.
+// The definitions are in specs/ (Repair.antt, Calls.antt), what they mean in specs/Statements.antt; the steps of the repair are the crate
+// `tail_steps`, and the making of a tail, whose call is named here too, is the crate `tail_making`.
+// The field's two tables are made once at the top of each call and lent to everything below.
 ghost use mathlib.Core.Path.{_≡_};
 ghost use mathlib.Core.List.{[]};
 ghost use Rattle.tail.specs.Calls.{tailAnswer, tailLeaves, wordAnswer, wordLeaves};
-ghost use Rattle.tail.specs.Encode.{encodeAnswer, encodeLeaves};
-ghost use Rattle.tail.specs.Statements.{RepairLaws, EncodeLaws};
+ghost use Rattle.tail.specs.Statements.{RepairLaws};
 use bits::Refusal;
-use bits::Writing;
 
 mod by_value;
 mod lent;
-mod making;
 
 pub use by_value::RepairedTail;
 pub use by_value::repair_by;
-pub use making::tail_by;
+pub use tail_making::encode_word;
 
 // What a repair answers: how many bytes it changed, or a refusal.
 pub enum Repairing {
@@ -66,24 +64,7 @@ pub fn repair_word(word: &mut [u8]) -> Repairing
     repair_word_erasures(word, &none[..0])
 }
 
-// The tail of a lent word made from its bytes 28 to 33.
-pub fn encode_word(word: &mut [u8]) -> Writing
-    ensures { λ r. ⌜ r ≡ encodeAnswer (now (word .entry)) ⌝ }
-    ensures leaves { λ r. ⌜ now (word .exit) ≡ encodeLeaves (now (word .entry)) ⌝ }
-{
-    if word.len() != 42 {
-        return Writing::Refused(Refusal::Size);
-    }
-    making::make_tail(&mut word[28..]);
-    Writing::Written
-}
-
 // What the repair means, as one statement.
 pub fn repair_laws()
     ensures { λ _. ⌜ RepairLaws ⌝ }
-{}
-
-// What the tail that is made is, as one statement.
-pub fn encode_laws()
-    ensures { λ _. ⌜ EncodeLaws ⌝ }
 {}

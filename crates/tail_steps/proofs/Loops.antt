@@ -1,6 +1,6 @@
 -- The turns of the loops: each law takes what was known before a turn to what is known after it.
 -- Assumes nothing.
-use mathlib.Core.Bool.{_||_, cond, Bool, true, false}
+use mathlib.Core.Bool.{_||_, cond, Bool, true, false, false≢true}
 use mathlib.Core.Path.{_≡_, refl, sym, ap, ap₂, _∙_}
 use mathlib.Core.List.{List, [], _∷_, _++_, append-assoc}
 use Prim.Native.Nat.{ℕ, zero, suc, _+_, _*_, _-_, _<_, _≤_}
@@ -139,6 +139,16 @@ wrong-same t c i ht hc e =
 
 pub wrong-end : (t c : List ℕ) (i : ℕ) → length t ≤ i → 0 ≡ wrongFrom i [] (drop i t) (drop i c)
 wrong-end t c i h = ap (λ (a : List ℕ). wrongFrom i [] a (drop i c)) (sym (drop-end t i h))
+
+-- a word differs from itself nowhere
+one-same : (a b : Bool) (n : ℕ) → b ≡ true → oneIf a b n ≡ n
+one-same true b n e = refl
+one-same false true n e = refl
+one-same false false n e = absurd (false≢true e)
+
+pub wrong-self : (i : ℕ) (es t : List ℕ) → wrongFrom i es t t ≡ 0
+wrong-self i es [] = refl
+wrong-self i es (x ∷ t) = one-same (among i es) (eqb x x) (wrongFrom (suc i) es t t) (eq-eqb x x refl) ∙ wrong-self (suc i) es t
 
 -- ---- bytes added at the marks
 

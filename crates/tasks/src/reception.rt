@@ -3,8 +3,9 @@
 ghost use mathlib.Core.Path.{_≡_};
 ghost use mathlib.Core.Bool.{true};
 ghost use Prim.Native.Nat.{_+_, _*_, _≤_, _<_};
-ghost use lib.ListN.{length};
-ghost use Rattle.tasks.specs.Receptions.{Ready, Told, gives};
+ghost use lib.ListN.{length, take, drop};
+ghost use Rattle.sync.specs.View.{view};
+ghost use Rattle.tasks.specs.Receptions.{Ready, NextOf, Told, gives};
 use journal::Earlier;
 use sync::Push;
 use sync::Synchroniser;
@@ -77,6 +78,7 @@ pub(crate) fn opened(fd: i32) -> Reception
 // The envelope of frame k of a push.
 fn envelope_of(room: [u8; 1296], k: usize) -> [u8; 48]
     requires { ⌜ k < 3 ⌝ }
+    ensures { λ r. ⌜ r ≡ take 48 (drop (432 * k) room) ⌝ }
 {
     let mut envelope = [0u8; 48];
     for i in 0..48usize {
@@ -90,6 +92,7 @@ fn give(r: Reception) -> Received
     requires { ⌜ Ready r ⌝ ∗ ⌜ r .given < r .count ⌝ }
     ensures ready { λ s. ⌜ Ready (s .reception) ⌝ }
     ensures given { λ s. ⌜ s .reception .frames ≡ r .frames + gives (s .next) ⌝ }
+    ensures frame { λ s. ⌜ NextOf (view (s .reception .sync)) (r .frames) (s .next) (s .envelope) ⌝ }
 {
     let k = r.given;
     let heads = r.heads;
@@ -143,6 +146,7 @@ fn feed(r: Reception) -> Reception
     let taken = r.taken;
     let s = r.sync;
     let mut room = [0u8; 1296];
+    sync::calls_follow_the_rules();
     sync::feed_is_pushes();
     let fed = s.feed_packed(&piece[..size], taken, &mut room);
     let pushed = fed.pushed;
@@ -199,6 +203,7 @@ fn without_frame(r: Reception) -> Received
     requires { ⌜ Ready r ⌝ }
     ensures ready { λ s. ⌜ Ready (s .reception) ⌝ }
     ensures given { λ s. ⌜ s .reception .frames ≡ r .frames + gives (s .next) ⌝ }
+    ensures frame { λ s. ⌜ NextOf (view (s .reception .sync)) (r .frames) (s .next) (s .envelope) ⌝ }
 {
     let earlier = r.earlier;
     Received {
@@ -214,6 +219,7 @@ pub(crate) fn receive(r: Reception) -> Received
     requires { ⌜ Ready r ⌝ }
     ensures ready { λ s. ⌜ Ready (s .reception) ⌝ }
     ensures given { λ s. ⌜ s .reception .frames ≡ r .frames + gives (s .next) ⌝ }
+    ensures frame { λ s. ⌜ NextOf (view (s .reception .sync)) (r .frames) (s .next) (s .envelope) ⌝ }
 {
     if r.given < r.count {
         return give(r);

@@ -9,11 +9,11 @@ use lib.ListN.{length, getD, take, drop, replicate, length-drop, length-append, 
 use lib.Seq.{ext-getD, getD-take, getD-drop, length-take-le, getD-append-add}
 use Rattle.bits.specs.Bit.{Bytes}
 use Rattle.bits.proofs.Belows.{below-none, below-cons, below-append, below-take, below-drop}
-use Rattle.tail.specs.Encode.{tailOf}
+use Rattle.tail_making.specs.Encode.{tailOf}
 use Rattle.tail.specs.Calls.{tailIn}
 use Rattle.tail.specs.Repair.{Answer, refused, repaired, repairOf, Repairs}
 use Rattle.tail.proofs.Searching.{means}
-use Rattle.tail.proofs.Encoding.{tail-code, tail-six}
+use Rattle.tail_making.proofs.Encoding.{tail-code, tail-six}
 use Rattle.trials.specs.Encoded.{withTail}
 
 module _ (w : List ℕ) (e : length w ≡ 42) where

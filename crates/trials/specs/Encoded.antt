@@ -7,7 +7,7 @@ use lib.ListN.{set, take, drop}
 use Rattle.protected.specs.Checksum.{inputOf}
 use Rattle.protected.specs.Convolution.{convolved}
 use Rattle.protected.specs.Word.{withCoded, front}
-use Rattle.tail.specs.Encode.{tailOf}
+use Rattle.tail_making.specs.Encode.{tailOf}
 
 -- a word with its tail made anew from bytes 28 to 33
 unfoldable pub withTail : List ℕ → List ℕ

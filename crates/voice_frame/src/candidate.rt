@@ -56,7 +56,7 @@ pub(crate) fn with_tail(powers: &[u8; 510], logs: &[u8; 256], word: [u8; 42]) ->
     ensures { λ r. ⌜ r ≡ withTail word ⌝ }
 {
     let six = [word[28], word[29], word[30], word[31], word[32], word[33]];
-    with_last(word, tail::tail_by(powers, logs, six))
+    with_last(word, tail_making::tail_by(powers, logs, six))
 }
 
 // The word with the coded bits, the mode and the tail that belong to them.

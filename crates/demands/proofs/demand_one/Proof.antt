@@ -3,7 +3,7 @@
 use mathlib.Core.List.{[]}
 use lib.ListN.{drop}
 use Rattle.protected.proofs.Admission.{admits-admitted, admitted-admits}
-use Rattle.sync.specs.Feeds.{hardly, softly, unpacked}
+use Rattle.sync_steps.specs.Feeds.{hardly, softly, unpacked}
 use Rattle.sync_rules.specs.State.{hard}
 use Rattle.tail.proofs.ErasedPlaces.{not-erasable, erasable-not}
 use Rattle.tail.proofs.Searching.{means}

@@ -2,13 +2,11 @@
 -- Assumes nothing.
 use mathlib.Core.Path.{_≡_, refl, sym, ap, _∙_}
 use native.Mathlib.Omega.{arith}
-use lib.ListN.{length}
-use Rattle.sync.specs.declared.frames.Drained.{Drained}
-use Rattle.sync.specs.Steps.{inputOf}
-use Rattle.sync.specs.Answers.{takes}
-use Rattle.sync.proofs.Bringing.{brings}
-use Rattle.sync.proofs.Quiets.{waits-as}
-use Rattle.sync.proofs.Answering.{taking, refuses, accepts, handed-by}
+use Rattle.sync_steps.specs.declared.frames.Drained.{Drained}
+use Rattle.sync_steps.specs.Answers.{takes}
+use Rattle.sync_steps.proofs.Quiets.{waits-as}
+use Rattle.sync_steps.proofs.Answering.{taking, refuses, accepts}
+use Rattle.sync.proofs.Handing.{lends, brings-in, handed-by}
 use borrow.Author.Needs.{needs}
 use Rattle.sync.proofs.one_push.Statement.{statement}
 use Rattle.sync.proofs.one_push.Tie as tie
@@ -16,19 +14,16 @@ use Rattle.sync.proofs.one_push.Tie as tie
 returns : tie.Need-returns
 returns c =
     let s = c .before .before .before .before .before .before .before in
-    let v = s .pre in
-    let long : length (s .args .s .bits) ≡ 1155 = search needs in
-    let as-long : length (s .args .s .reliabilities) ≡ 1155 = search needs in
+    let l = lends (s .args .s) (s .pre) (search needs) (search needs) in
     let z = sym (c .before .before .before .made .ensures) ∙ c .before .before .if1 .taken in
-    handed-by (s .args .s) _ _ _ _ _ _ _ _ (refuses _ _ _ _ _ _ (c .before .before .before .before .answer-to .ensures) z (v .steady) (v .few) (record { long = long; as-long = as-long; binary = v .binary }) _ (c .before .nothing .ensures))
+    handed-by (s .args .s) _ _ _ _ _ _ _ _ (refuses _ _ _ _ _ _ (c .before .before .before .before .answer-to .ensures) z (l .0) (l .1 .0) (l .1 .1) _ (c .before .nothing .ensures))
     (sym (ap (λ (d : Drained). d .numbers) (c .before .nothing .ensures))) _ (c .handed .ensures)
 
 put-requires-2 : tie.Need-put-requires-2
 put-requires-2 c κs =
     let s = c .before .before .before .before .before .before .before .before .before .before .before .before in
-    let v = s .pre in
-    let as-long : length (s .args .s .reliabilities) ≡ 1155 = search needs in
-    (as-long, omega (arith, v .steady .sound .first-in, v .steady .sound .restorable-few, v .few .1))
+    let l = lends (s .args .s) (s .pre) (search needs) (search needs) in
+    (l .1 .1 .as-long, omega (arith, l .0 .sound .first-in, l .0 .sound .restorable-few, l .1 .0 .1))
 
 appended-requires : tie.Need-appended-requires
 appended-requires c κs =
@@ -39,35 +34,27 @@ appended-requires c κs =
 sends-requires : tie.Need-sends-requires
 sends-requires c κs =
     let s = c .before .before .before .before .before .before .before .before .before .before .before .before .before .before .before .before .before .before .before .before in
-    let v = s .pre in
-    let long : length (s .args .s .bits) ≡ 1155 = search needs in
-    let as-long : length (s .args .s .reliabilities) ≡ 1155 = search needs in
-    let t = taking _ _ _ _ (c .before .before .before .before .before .before .before .before .before .before .before .before .before .before .before .before .before .answer-to .ensures) (λ z. c .before .before .before .before .before .before .before .before .before .before .before .before .before .before .before .if1 .left (c .before .before .before .before .before .before .before .before .before .before .before .before .before .before .before .before .made .ensures ∙ z)) in
-    let b = brings (s .args .s .bits) (s .args .s .reliabilities) (s .args .s .numbers) long as-long (v .steady) (v .few .1) (t .early) (inputOf (s .args .x)) _ _ (c .before .before .before .before .before .before .before .before .before .put .ensures) (c .before .before .before .before .before .before .before .put2 .ensures) _ (c .before .before .before .before .before .before .appended .ensures) (v .binary) (omega (arith, t .good)) in
-    (b .rings .binary, (b .steady, t .fits))
+    let a = c .before .before .before .before .before .before .before .before .before .before .before .before .before .before .before .before .before .answer-to .ensures in
+    let h : takes (c .before .before .before .before .before .before .before .before .before .before .before .before .before .before .before .before .before .answer-to .result) ≡ 0 → ⊥ = λ z. c .before .before .before .before .before .before .before .before .before .before .before .before .before .before .before .if1 .left (c .before .before .before .before .before .before .before .before .before .before .before .before .before .before .before .before .made .ensures ∙ z) in
+    let b = brings-in (s .args .s) (s .pre) (search needs) (search needs) (s .args .x) _ _ a h _ _ (c .before .before .before .before .before .before .before .before .before .put .ensures) (c .before .before .before .before .before .before .before .put2 .ensures) _ (c .before .before .before .before .before .before .appended .ensures) in
+    (b .rings .binary, (b .steady, taking _ _ _ _ a h .fits))
 
 returns-2 : tie.Need-returns-2
 returns-2 c =
     let s = c .before .before .before .before .before .before .before .before .before .before .before .before .before .before .before .before .before .before .before .before .before .before .before .before .before in
-    let v = s .pre in
-    let long : length (s .args .s .bits) ≡ 1155 = search needs in
-    let as-long : length (s .args .s .reliabilities) ≡ 1155 = search needs in
+    let a = c .before .before .before .before .before .before .before .before .before .before .before .before .before .before .before .before .before .before .before .before .before .before .answer-to .ensures in
     let h : takes (c .before .before .before .before .before .before .before .before .before .before .before .before .before .before .before .before .before .before .before .before .before .before .answer-to .result) ≡ 0 → ⊥ = λ z. c .before .before .before .before .before .before .before .before .before .before .before .before .before .before .before .before .before .before .before .before .if1 .left (c .before .before .before .before .before .before .before .before .before .before .before .before .before .before .before .before .before .before .before .before .before .made .ensures ∙ z) in
-    let t = taking _ _ _ _ (c .before .before .before .before .before .before .before .before .before .before .before .before .before .before .before .before .before .before .before .before .before .before .answer-to .ensures) h in
-    let b = brings (s .args .s .bits) (s .args .s .reliabilities) (s .args .s .numbers) long as-long (v .steady) (v .few .1) (t .early) (inputOf (s .args .x)) _ _ (c .before .before .before .before .before .before .before .before .before .before .before .before .before .before .put .ensures) (c .before .before .before .before .before .before .before .before .before .before .before .before .put2 .ensures) _ (c .before .before .before .before .before .before .before .before .before .before .before .appended .ensures) (v .binary) (omega (arith, t .good)) in
-    handed-by (s .args .s) _ _ _ _ _ _ _ _ (accepts _ _ _ _ _ _ (c .before .before .before .before .before .before .before .before .before .before .before .before .before .before .before .before .before .before .before .before .before .before .answer-to .ensures) h _ _ _ _ b _ (c .before .before .before .before .sends .ensures)) refl _ (c .handed2 .ensures)
+    let b = brings-in (s .args .s) (s .pre) (search needs) (search needs) (s .args .x) _ _ a h _ _ (c .before .before .before .before .before .before .before .before .before .before .before .before .before .before .put .ensures) (c .before .before .before .before .before .before .before .before .before .before .before .before .put2 .ensures) _ (c .before .before .before .before .before .before .before .before .before .before .before .appended .ensures) in
+    handed-by (s .args .s) _ _ _ _ _ _ _ _ (accepts _ _ _ _ _ _ a h _ _ _ _ b _ (c .before .before .before .before .sends .ensures)) refl _ (c .handed2 .ensures)
 
 returns-3 : tie.Need-returns-3
 returns-3 c =
     let s = c .before .before .before .before .before .before .before .before .before .before .before .before .before .before .before .before .before .before in
-    let v = s .pre in
-    let long : length (s .args .s .bits) ≡ 1155 = search needs in
-    let as-long : length (s .args .s .reliabilities) ≡ 1155 = search needs in
+    let a = c .before .before .before .before .before .before .before .before .before .before .before .before .before .before .before .answer-to .ensures in
     let h : takes (c .before .before .before .before .before .before .before .before .before .before .before .before .before .before .before .answer-to .result) ≡ 0 → ⊥ = λ z. c .before .before .before .before .before .before .before .before .before .before .before .before .before .if1 .left (c .before .before .before .before .before .before .before .before .before .before .before .before .before .before .made .ensures ∙ z) in
-    let t = taking _ _ _ _ (c .before .before .before .before .before .before .before .before .before .before .before .before .before .before .before .answer-to .ensures) h in
-    let b = brings (s .args .s .bits) (s .args .s .reliabilities) (s .args .s .numbers) long as-long (v .steady) (v .few .1) (t .early) (inputOf (s .args .x)) _ _ (c .before .before .before .before .before .before .before .put .ensures) (c .before .before .before .before .before .put2 .ensures) _ (c .before .before .before .before .appended .ensures) (v .binary) (omega (arith, t .good)) in
+    let b = brings-in (s .args .s) (s .pre) (search needs) (search needs) (s .args .x) _ _ a h _ _ (c .before .before .before .before .before .before .before .put .ensures) (c .before .before .before .before .before .put2 .ensures) _ (c .before .before .before .before .appended .ensures) in
     let n = c .before .nothing2 .ensures in
-    handed-by (s .args .s) _ _ _ _ _ _ _ _ (accepts _ _ _ _ _ _ (c .before .before .before .before .before .before .before .before .before .before .before .before .before .before .before .answer-to .ensures) h _ _ _ _ b _ (waits-as _ _ _ _ (b .steady) (c .before .before .before .enough .ensures (c .before .before .if2 .left)) _ n))
+    handed-by (s .args .s) _ _ _ _ _ _ _ _ (accepts _ _ _ _ _ _ a h _ _ _ _ b _ (waits-as _ _ _ _ (b .steady) (c .before .before .before .enough .ensures (c .before .before .if2 .left)) _ n))
     (sym (ap (λ (d : Drained). d .numbers) n)) _ (c .handed3 .ensures)
 
 pub one-push-spec : {M : Type 1} → statement M

@@ -10,13 +10,13 @@ use lib.ListN.{length}
 use Rattle.bits.specs.Bit.{Bytes}
 use Rattle.bits.specs.declared.Refusal.{Refusal}
 use Rattle.tail_steps.specs.Code.{Codeword, wrong, Near}
+use Rattle.tail_steps.proofs.Loops.{wrong-self}
 use Rattle.tail_steps.proofs.AtMostOne.{near-one, far-apart}
 use Rattle.tail.specs.declared.Repairing.the-variants.{Repaired, Refused}
 use Rattle.tail.specs.Repair.{repaired, Repairs, repairOf}
 use Rattle.tail.specs.Calls.{erasable, answerOf, writtenOver, tailAnswer, tailLeaves}
 use Rattle.tail.proofs.ErasedPlaces.{once-of, not-erasable, erasable-not}
 use Rattle.tail.proofs.Searching.{means, is-repair}
-use Rattle.tail.proofs.Outcome.{wrong-self}
 use Rattle.tail.proofs.Called.{leaves-size, leaves-erasure, answer-repair, leaves-repair, written-refused, word-front}
 use Rattle.tail.proofs.SixErasures.{always-near}
 use Rattle.tail.proofs.repair_laws.Statement.{statement}

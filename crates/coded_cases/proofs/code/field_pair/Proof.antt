@@ -11,7 +11,7 @@ use lib.Dec.{eqb}
 use lib.ListN.{length, getD}
 use Rattle.bits.proofs.Conds.{cond-eq, cond-ne}
 use Rattle.field.specs.Field.{product, quotient}
-use Rattle.coded_cases.specs.Cases.{Answer, bytes, unfit, Told}
+use Rattle.case_bytes.specs.Answers.{Answer, bytes, unfit, Told}
 use borrow.Author.Needs.{needs}
 use Rattle.coded_cases.proofs.code.field_pair.Statement.{statement}
 use Rattle.coded_cases.proofs.code.field_pair.Tie as tie

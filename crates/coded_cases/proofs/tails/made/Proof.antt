@@ -7,10 +7,10 @@ use Rattle.case_bytes.proofs.Puts.{put-as}
 use lib.ListN.{length}
 use denote.Ref.{now}
 use Rattle.bits.proofs.Conds.{cond-eq, cond-ne, cond-le, cond-gt}
-use Rattle.coded_cases.specs.Cases.{unfit}
+use Rattle.case_bytes.specs.Answers.{unfit}
 use Rattle.coded_cases.specs.Tails.{madeCase, madeBytes}
 use Rattle.coded_cases.proofs.Copies.{lent-front}
-use Rattle.coded_cases.proofs.Telling.{told, told-unfit, told-as}
+use Rattle.case_bytes.proofs.Telling.{told, told-unfit, told-as}
 use borrow.Author.Needs.{needs}
 use Rattle.coded_cases.proofs.tails.made.Statement.{statement}
 use Rattle.coded_cases.proofs.tails.made.Tie as tie

@@ -9,9 +9,9 @@ use lib.ListN.{length, getD, take, drop, length-drop}
 use lib.Seq.{take-all}
 use denote.Ref.{now}
 use Rattle.bits.proofs.Conds.{cond-eq, cond-ne, cond-le, cond-gt}
-use Rattle.coded_cases.specs.Cases.{unfit}
+use Rattle.case_bytes.specs.Answers.{unfit}
 use Rattle.coded_cases.specs.Tails.{repairedCase, repairCase}
-use Rattle.coded_cases.proofs.Telling.{told, told-unfit, told-as}
+use Rattle.case_bytes.proofs.Telling.{told, told-unfit, told-as}
 use borrow.Author.Needs.{needs}
 use Rattle.coded_cases.proofs.tails.repaired.Statement.{statement}
 use Rattle.coded_cases.proofs.tails.repaired.Tie as tie

@@ -12,8 +12,9 @@ use lib.ListN.{length, getD, take, drop, replicate, length-drop}
 use lib.Seq.{take-all}
 use Rattle.trials.specs.Calls.{encodeAnswer, encodeLeaves}
 use Rattle.bits.proofs.Conds.{cond-eq, cond-ne}
-use Rattle.coded_cases.specs.Cases.{unfit, written, encodeCase}
-use Rattle.coded_cases.proofs.Telling.{told, told-unfit}
+use Rattle.case_bytes.specs.Answers.{unfit}
+use Rattle.coded_cases.specs.Cases.{written, encodeCase}
+use Rattle.case_bytes.proofs.Telling.{told, told-unfit}
 use borrow.Author.Needs.{needs}
 use Rattle.coded_cases.proofs.voice.encoded.Statement.{statement}
 use Rattle.coded_cases.proofs.voice.encoded.Tie as tie

@@ -11,8 +11,9 @@ use lib.ListN.{length, getD, take, drop, length-drop}
 use lib.Seq.{take-all}
 use Rattle.bits.proofs.Conds.{cond-eq, cond-ne, cond-le, cond-gt}
 use Rattle.trials.specs.Calls.{softAnswer}
-use Rattle.coded_cases.specs.Cases.{unfit, spoken, softCase}
-use Rattle.coded_cases.proofs.Telling.{told, told-unfit}
+use Rattle.case_bytes.specs.Answers.{unfit}
+use Rattle.coded_cases.specs.Cases.{spoken, softCase}
+use Rattle.case_bytes.proofs.Telling.{told, told-unfit}
 use borrow.Author.Needs.{needs}
 use Rattle.coded_cases.proofs.voice.softly_decoded.Statement.{statement}
 use Rattle.coded_cases.proofs.voice.softly_decoded.Tie as tie

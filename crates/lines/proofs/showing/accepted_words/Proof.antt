@@ -4,7 +4,8 @@ use mathlib.Core.List.{List, [], _∷_, _++_, append-assoc}
 use mathlib.Core.Path.{_≡_, ap, _∙_}
 use Prim.Native.Nat.{ℕ}
 use native.Mathlib.Omega.{arith}
-use Rattle.lines.specs.Text.{lineOf, spaced}
+use Rattle.texts.specs.Text.{lineOf}
+use Rattle.lines.specs.Text.{spaced}
 use borrow.Author.Needs.{needs}
 use Rattle.lines.proofs.showing.accepted_words.Statement.{statement}
 use Rattle.lines.proofs.showing.accepted_words.Tie as tie

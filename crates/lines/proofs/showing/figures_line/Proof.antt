@@ -3,7 +3,8 @@
 use mathlib.Core.List.{List, _++_}
 use mathlib.Core.Path.{_≡_, ap, _∙_}
 use Prim.Native.Nat.{ℕ}
-use Rattle.lines.specs.Text.{lineOf, frameWords, lineFeed}
+use Rattle.texts.specs.Text.{lineOf}
+use Rattle.lines.specs.Text.{lineFeed, frameWords}
 use Rattle.lines.specs.Entries.{outcomeWords}
 use borrow.Author.Needs.{needs}
 use Rattle.lines.proofs.showing.figures_line.Statement.{statement}

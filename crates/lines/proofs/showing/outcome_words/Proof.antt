@@ -4,7 +4,7 @@ use mathlib.Core.List.{List, _++_}
 use mathlib.Core.Path.{_≡_, sym, ap, _∙_}
 use native.Mathlib.Omega.{arith}
 use Rattle.journal.specs.declared.Outcome.{Outcome}
-use Rattle.lines.specs.Text.{lineOf}
+use Rattle.texts.specs.Text.{lineOf}
 use Rattle.lines.specs.Entries.{outcomeWords}
 use borrow.Author.Needs.{needs}
 use Rattle.lines.proofs.showing.outcome_words.Statement.{statement}

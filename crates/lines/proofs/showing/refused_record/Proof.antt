@@ -2,10 +2,11 @@
 -- Assumes nothing.
 use mathlib.Core.Path.{ap, _∙_}
 use Prim.Native.Nat.{ℕ}
-use Rattle.lines.specs.declared.Line.{Line}
+use Rattle.texts.specs.declared.Line.{Line}
 use Rattle.lines.specs.declared.Shown.{Shown}
 use Rattle.lines.specs.declared.What.the-variants.{NoRecord}
-use Rattle.lines.specs.Text.{lineOf, refusedText}
+use Rattle.texts.specs.Text.{lineOf}
+use Rattle.lines.specs.Text.{refusedText}
 use borrow.Author.Needs.{needs}
 use Rattle.lines.proofs.showing.refused_record.Statement.{statement}
 use Rattle.lines.proofs.showing.refused_record.Tie as tie

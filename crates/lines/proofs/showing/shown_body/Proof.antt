@@ -2,7 +2,7 @@
 -- Assumes nothing.
 use mathlib.Core.Path.{_≡_, sym, ap, _∙_}
 use Rattle.journal.specs.declared.Body.{Body}
-use Rattle.lines.specs.declared.Line.{Line}
+use Rattle.texts.specs.declared.Line.{Line}
 use Rattle.lines.specs.declared.Shown.{Shown}
 use Rattle.lines.specs.declared.What.the-variants.{AFrame, AGap}
 use Rattle.lines.specs.Entries.{shownBody}

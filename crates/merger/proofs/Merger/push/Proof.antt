@@ -1,4 +1,4 @@
-use Rattle.merger.specs.Merging.{heldOf}
+use Rattle.merger_rules.specs.Merging.{heldOf}
 use Rattle.merger.proofs.Gave.{same, push-stream, push-offset, push-late, push-on}
 use borrow.Author.Needs.{needs}
 use Rattle.merger.proofs.Merger.push.Statement.{statement}

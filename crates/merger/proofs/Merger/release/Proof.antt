@@ -1,5 +1,4 @@
 use Rattle.merger.proofs.Gave.{release-empty, release-not, release-ready, fair-of, fair-first}
-use Prim.Native.Nat.{_<_}
 use native.Mathlib.Omega.{arith}
 use borrow.Author.Needs.{needs}
 use Rattle.merger.proofs.Merger.release.Statement.{statement}

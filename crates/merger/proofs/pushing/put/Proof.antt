@@ -1,7 +1,4 @@
 use Rattle.merger.proofs.Gave.{put-join, put-open, nowhere-end, nowhere-above, fair-of, stopped}
-use Prim.Native.Nat.{_≤_, _<_}
-use mathlib.Core.Path.{_≡_}
-use native.Mathlib.Omega.{arith}
 use borrow.Author.Needs.{needs}
 use Rattle.merger.proofs.pushing.put.Statement.{statement}
 use Rattle.merger.proofs.pushing.put.Tie as tie

@@ -1,5 +1,5 @@
 use Rattle.merger.proofs.Gave.{give-neither, give-frame, give-over}
-use Rattle.merger.specs.States.{FairChoice}
+use Rattle.merger_rules.specs.States.{FairChoice}
 use mathlib.Core.Path.{subst}
 use borrow.Author.Needs.{needs}
 use Rattle.merger.proofs.releasing.give.Statement.{statement}

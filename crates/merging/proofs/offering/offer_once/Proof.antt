@@ -3,7 +3,7 @@
 use mathlib.Core.Path.{_≡_}
 use native.Mathlib.Omega.{arith}
 use borrow.Author.Needs.{needs}
-use Rattle.merger.specs.Merging.{heldOf}
+use Rattle.merger_rules.specs.Merging.{heldOf}
 use Rattle.merging.proofs.Takings.{slot-left, Filled, filled, still-double, still-late, still-refused}
 use Rattle.merging.proofs.offering.offer_once.Statement.{statement}
 use Rattle.merging.proofs.offering.offer_once.Tie as tie

@@ -4,7 +4,8 @@ use mathlib.Core.Path.{_≡_, ap, _∙_}
 use native.Mathlib.Omega.{arith}
 use lib.ListN.{length}
 use borrow.Author.Needs.{needs}
-use Rattle.merger.specs.Merging.{View, viewOf}
+use Rattle.merger_rules.specs.Merging.{View}
+use Rattle.merger.specs.States.{viewOf}
 use Rattle.tasks.proofs.Giving.{reached-start, none-yet}
 use Rattle.merging.proofs.Shelving.{empty-shelved, none-used}
 use Rattle.merging.proofs.recordings.begun.Statement.{statement}

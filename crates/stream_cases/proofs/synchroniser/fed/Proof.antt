@@ -1,40 +1,18 @@
--- `fed` leads where the feed does.
+-- `fed` tells what the feed answers.
 -- Assumes nothing.
-use mathlib.Core.Path.{_≡_, refl, sym, ap, ap₂, _∙_, subst}
-use mathlib.Core.Bool.{true}
-use mathlib.Core.List.{List}
-use Prim.Native.Nat.{ℕ, _+_, _-_, _*_, _<_, _≤_}
-use native.Mathlib.Nat.{le-refl}
-use native.Mathlib.Omega.{arith}
-use lib.ListN.{length, getD, take, drop, length-drop}
-use lib.Seq.{take-all, length-take-le}
 use denote.Ref.{now}
-use Rattle.bits.proofs.Conds.{cond-eq, cond-ne, cond-le, cond-gt}
-use Rattle.sync.specs.Feeds.{fedOf, hardly, softly, unpacked}
-use Rattle.sync.specs.View.{Valid, view}
-use Rattle.sync_rules.specs.State.{State, hard}
-use Rattle.stream_cases.specs.Streams.{after, named, softPush, pushedHard, fedHard, fedSoft, fedPacked}
+use Rattle.sync_steps.specs.Feeds.{hardly}
+use Rattle.stream_cases.proofs.Telling.{fed-told}
 use borrow.Author.Needs.{needs}
 use Rattle.stream_cases.proofs.synchroniser.fed.Statement.{statement}
 use Rattle.stream_cases.proofs.synchroniser.fed.Tie as tie
 
 returns : tie.Need-returns
 returns c =
-    let start = c .before .before .before .before .before .before .before .before .before .before .before .before .before .before .before .before .before in
-    let input : List ℕ = now (start .args .input) in
-    let room = length (now (start .args .room)) in
-    let m = view (start .args .s) in
-    let told = c .before .before .put-pushed in
-    let done = c .before .before .before .before .before .before .before .before .before .before .before .before .feed in
-    (subst Valid (sym (told .ensures)) (done .ensures .valid), ap view (told .ensures) ∙ done .ensures .next)
+    let told = c .before .before in
+    let done = told .before .before .before .before .before in
+    let args = done .before .before .before .before .before .args in
+    fed-told (args .s) (now (args .room)) (hardly (now (args .input))) (done .feed .ensures) (told .put-fed .ensures)
 
 pub fed-spec : {M : Type 1} → statement M
-fed-spec =
-    tie.close
-    (tie.spec
-    (λ c κs. search needs)
-    (λ c κs. search needs)
-    (λ c κs. search needs)
-    (λ c. search needs)
-    (λ c. search needs)
-    returns)
+fed-spec = tie.close (tie.spec (λ c κs. search needs) (λ c κs. search needs) (λ c. search needs) (λ c. search needs) returns)

@@ -1,47 +1,48 @@
--- `fed_packed` leads where the feed does.
+-- `fed_packed` tells what the feed answers.
 -- Assumes nothing.
-use mathlib.Core.Path.{_≡_, refl, sym, ap, ap₂, _∙_, subst}
-use mathlib.Core.Bool.{true}
+use mathlib.Core.Path.{_≡_, sym, ap₂, _∙_}
 use mathlib.Core.List.{List}
-use Prim.Native.Nat.{ℕ, _+_, _-_, _*_, _<_, _≤_}
+use Prim.Native.Nat.{ℕ, _-_}
 use native.Mathlib.Nat.{le-refl}
-use native.Mathlib.Omega.{arith}
-use lib.ListN.{length, getD, take, drop, length-drop}
-use lib.Seq.{take-all, length-take-le}
+use lib.ListN.{length, take, drop, length-drop}
+use lib.Seq.{take-all}
 use denote.Ref.{now}
-use Rattle.bits.proofs.Conds.{cond-eq, cond-ne, cond-le, cond-gt}
-use Rattle.sync.specs.Feeds.{fedOf, hardly, softly, unpacked}
-use Rattle.sync.specs.View.{Valid, view}
-use Rattle.sync_rules.specs.State.{State, hard}
-use Rattle.stream_cases.specs.Streams.{after, named, softPush, pushedHard, fedHard, fedSoft, fedPacked}
+use Rattle.bits.proofs.Conds.{cond-le, cond-gt}
+use Rattle.sync_steps.specs.Feeds.{hardly, unpacked}
+use Rattle.sync.specs.View.{view}
+use Rattle.stream_cases.specs.Streams.{fedPackedCase, feedCase, named}
+use Rattle.stream_cases.proofs.Parts.{named-is}
+use Rattle.stream_cases.proofs.Telling.{fed-told, told-as, told-unfit}
 use borrow.Author.Needs.{needs}
 use Rattle.stream_cases.proofs.synchroniser.fed_packed.Statement.{statement}
 use Rattle.stream_cases.proofs.synchroniser.fed_packed.Tie as tie
 
 returns : tie.Need-returns
 returns c =
-    let start = c .before .before .before .before .before in
+    let tested = c .before in
+    let start = tested .before .before .before .before in
     let input : List ℕ = now (start .args .input) in
-    let room = length (now (start .args .room)) in
-    let m = view (start .args .s) in
-    (start .pre, sym (cond-gt 2 (length input) _ _ (c .before .if1 .taken)))
+    let room : List ℕ = now (start .args .room) in
+    let s = start .args .s in
+    told-unfit s (fedPackedCase room input (view s)) room (now (start .args .out)) (c .no-case .result) (sym (cond-gt 2 (length input) _ _ (tested .if1 .taken))) (c .no-case .ensures) (start .pre)
 
 returns-2 : tie.Need-returns-2
 returns-2 c =
-    let start = c .before .before .before .before .before .before .before .before .before .before .before .before .before .before .before .before .before .before .before .before .before .before in
+    let told = c .before .before in
+    let done = told .before .before .before .before .before in
+    let size = done .before .before in
+    let tested = size .before .before .before .before in
+    let start = tested .before .before .before .before in
     let input : List ℕ = now (start .args .input) in
-    let room = length (now (start .args .room)) in
-    let m = view (start .args .s) in
-    let told = c .before .before .put-pushed in
-    let done = c .before .before .before .before .before .before .before .before .before .before .before .before .feed-packed in
-    let w = c .before .before .before .before .before .before .before .before .before .before .before .before .before .before .pair .result in
-    let size : w ≡ named input 0 = c .before .before .before .before .before .before .before .before .before .before .before .before .before .before .pair .ensures .0 ∙ ap₂ (λ (h l : ℕ). 256 * h + l) (c .before .before .before .before .before .before .before .before .before .before .before .before .before .before .before .before .at .ensures) (c .before .before .before .before .before .before .before .before .before .before .before .before .before .before .before .at2 .ensures) in
-    let rest : take (length input - 2) (drop 2 input) ≡ drop 2 input = take-all (length input - 2) (drop 2 input) (simp length-drop (le-refl _)) in (
-      subst Valid (sym (told .ensures)) (done .ensures .valid),
-      ap view (told .ensures) ∙ done .ensures .next
-          ∙ ap₂ (λ (n : ℕ) (p : List ℕ). fedOf room (hardly (drop n (unpacked p))) m .next) size rest
-          ∙ sym (cond-le 2 (length input) _ _ (c .before .before .before .before .before .before .before .before .before .before .before .before .before .before .before .before .before .before .if1 .left)),
-    )
+    let room : List ℕ = now (start .args .room) in
+    let s = start .args .s in
+    let w = size .pair .result in
+    let is : w ≡ named input 0 = named-is input 0 (size .pair .ensures .0) (size .before .before .at .ensures) (size .before .at2 .ensures) in
+    let packed : List ℕ = take (length input - 2) (drop 2 input) in
+    let rest : packed ≡ drop 2 input = take-all (length input - 2) (drop 2 input) (simp length-drop (le-refl _)) in
+    told-as (feedCase room (hardly (drop w (unpacked packed))) (view s)) (fedPackedCase room input (view s))
+    (ap₂ (λ (n : ℕ) (l : List ℕ). feedCase room (hardly (drop n (unpacked l))) (view s)) is rest ∙ sym (cond-le 2 (length input) _ _ (tested .if1 .left)))
+    (fed-told s room (hardly (drop w (unpacked packed))) (done .feed-packed .ensures) (told .put-fed .ensures))
 
 pub fed-packed-spec : {M : Type 1} → statement M
 fed-packed-spec =
@@ -52,7 +53,6 @@ fed-packed-spec =
     (λ c. search needs)
     (λ c. search needs)
     (λ c. search needs)
-    (λ c κs. search needs)
     (λ c κs. search needs)
     (λ c κs. search needs)
     (λ c κs. search needs)

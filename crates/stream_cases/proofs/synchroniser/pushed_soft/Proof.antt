@@ -1,39 +1,37 @@
--- `pushed_soft` leads where the push does.
+-- `pushed_soft` tells what the push answers.
 -- Assumes nothing.
-use mathlib.Core.Path.{_≡_, refl, sym, ap, ap₂, _∙_, subst}
+use mathlib.Core.Path.{ap, _∙_}
 use mathlib.Core.Bool.{true}
 use mathlib.Core.List.{List}
-use Prim.Native.Nat.{ℕ, _+_, _-_, _*_, _<_, _≤_}
-use native.Mathlib.Nat.{le-refl}
-use native.Mathlib.Omega.{arith}
-use lib.ListN.{length, getD, take, drop, length-drop}
-use lib.Seq.{take-all, length-take-le}
+use Prim.Native.Nat.{ℕ}
+use lib.ListN.{getD}
 use denote.Ref.{now}
-use Rattle.bits.proofs.Conds.{cond-eq, cond-ne, cond-le, cond-gt}
-use Rattle.sync.specs.Feeds.{fedOf, hardly, softly, unpacked}
-use Rattle.sync.specs.View.{Valid, view}
-use Rattle.sync_rules.specs.State.{State, hard}
-use Rattle.stream_cases.specs.Streams.{after, named, softPush, pushedHard, fedHard, fedSoft, fedPacked}
+use Rattle.sync.specs.View.{view}
+use Rattle.sync_rules.specs.State.{Input}
+use Rattle.stream_cases.specs.Streams.{pushCase, softPush}
+use Rattle.stream_cases.proofs.Telling.{pushed-told, told-as}
 use borrow.Author.Needs.{needs}
 use Rattle.stream_cases.proofs.synchroniser.pushed_soft.Statement.{statement}
 use Rattle.stream_cases.proofs.synchroniser.pushed_soft.Tie as tie
 
 returns : tie.Need-returns
 returns c =
-    let start = c .before .before .before .before .before .before .before .before .before .before .before .before .before .before .before in
+    let told = c .before .before in
+    let done = told .before .before .before .before .before in
+    let second = done .before .before in
+    let first = second .before in
+    let dibit = first .before in
+    let start = dibit .before .before .before .before in
     let input : List ℕ = now (start .args .input) in
-    let room = length (now (start .args .room)) in
-    let m = view (start .args .s) in
-    let told = c .before .before .put-pushed in
-    let done = c .before .before .before .before .before .before .before .push-soft in
-    let first = c .before .before .before .before .before .before .before .before .before .before .at2 in
-    let second = c .before .before .before .before .before .before .before .before .before .at3 in (
-      subst Valid (sym (told .ensures)) (done .ensures .valid),
-      ap view (told .ensures) ∙ done .ensures .next
-          ∙ ap (λ (d : ℕ). after room (record { dibit = d; ofFirst = first .result; ofSecond = second .result; soft = true }) m) (c .before .before .before .before .before .before .before .before .before .before .before .at .ensures)
-          ∙ ap (λ (d : ℕ). after room (record { dibit = getD input 0 0; ofFirst = d; ofSecond = second .result; soft = true }) m) (first .ensures)
-          ∙ ap (λ (d : ℕ). after room (record { dibit = getD input 0 0; ofFirst = getD input 1 0; ofSecond = d; soft = true }) m) (second .ensures),
-    )
+    let room : List ℕ = now (start .args .room) in
+    let s = start .args .s in
+    let soft : ℕ → ℕ → ℕ → Input = λ d a b. record { dibit = d; ofFirst = a; ofSecond = b; soft = true } in
+    let x = soft (dibit .at .result) (first .at2 .result) (second .at3 .result) in
+    told-as (pushCase room x (view s)) (pushCase room (softPush input) (view s))
+    (ap (λ (n : ℕ). pushCase room (soft n (first .at2 .result) (second .at3 .result)) (view s)) (dibit .at .ensures)
+    ∙ ap (λ (n : ℕ). pushCase room (soft (getD input 0 0) n (second .at3 .result)) (view s)) (first .at2 .ensures)
+    ∙ ap (λ (n : ℕ). pushCase room (soft (getD input 0 0) (getD input 1 0) n) (view s)) (second .at3 .ensures))
+    (pushed-told s room x (done .push-soft .ensures) (told .put-pushed .ensures))
 
 pub pushed-soft-spec : {M : Type 1} → statement M
 pushed-soft-spec =

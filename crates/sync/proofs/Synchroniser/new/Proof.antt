@@ -1,10 +1,8 @@
 -- `sync::Synchroniser::new` meets its contract.
 -- Assumes nothing.
-use mathlib.Core.Path.{_≡_, refl}
-use mathlib.Core.Bool.{true≢false}
+use mathlib.Core.Path.{refl}
 use native.Mathlib.Omega.{arith}
-use mathlib.Core.Path.{sym}
-use Rattle.sync.specs.Ring.{ring}
+use Rattle.sync_steps.specs.Ring.{ring}
 use Rattle.bits.proofs.BelowSets.{below-replicate}
 use Rattle.sync.proofs.Synchroniser.new.Statement.{statement}
 use Rattle.sync.proofs.Synchroniser.new.Tie as tie
@@ -17,7 +15,7 @@ returns c = (
       sound = record { first-in = omega arith; restorable-few = omega arith; held-few = omega arith; taken-few = omega arith; tide = omega arith; grid = omega arith; synchronised-few = omega arith; slips-few = omega arith; failures-few = omega arith };
       low = omega arith;
       slips = omega arith;
-      fails = λ w. absurd (true≢false (sym w));
+      fails = λ w. omega arith;
     };
     binary = below-replicate 1155 0 (omega arith) (omega arith);
     few = ((λ w. omega arith), omega arith);

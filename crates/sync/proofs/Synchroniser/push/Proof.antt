@@ -1,6 +1,6 @@
 -- `sync::Synchroniser::push` meets its contract.
 -- Assumes nothing.
-use Rattle.sync.proofs.Answering.{pushed-with}
+use Rattle.sync.proofs.Handing.{pushed-with}
 use borrow.Author.Needs.{needs}
 use Rattle.sync.proofs.Synchroniser.push.Statement.{statement}
 use Rattle.sync.proofs.Synchroniser.push.Tie as tie

@@ -4,6 +4,7 @@ use mathlib.Core.Path.{refl}
 use Prim.Native.Nat.{_≤_}
 use native.Mathlib.Omega.{arith}
 use borrow.Author.Needs.{needs}
+use Rattle.tasks.proofs.Giving.{reached-by}
 use Rattle.tasks.proofs.reception.closed.Statement.{statement}
 use Rattle.tasks.proofs.reception.closed.Tie as tie
 
@@ -14,7 +15,7 @@ returns c =
     let g = start .pre in (
       record {
         valid = g .valid;
-        reached = g .reached;
+        reached = reached-by (g .sent);
         few = omega (arith, g .balance, g .waiting);
         all = λ e. let none : r .count ≤ r .given = c .has-ended .ensures e in omega (arith, g .balance, g .waiting, none);
       },

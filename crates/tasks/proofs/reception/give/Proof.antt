@@ -3,6 +3,7 @@
 use mathlib.Core.Path.{refl}
 use native.Mathlib.Omega.{arith}
 use borrow.Author.Needs.{needs}
+use Rattle.tasks.proofs.Giving.{given-next}
 use Rattle.tasks.proofs.reception.give.Statement.{statement}
 use Rattle.tasks.proofs.reception.give.Tie as tie
 
@@ -15,12 +16,12 @@ returns c =
         few = g .few;
         taken = g .taken;
         valid = g .valid;
-        reached = g .reached;
+        sent = g .sent;
         waiting = omega (arith, start .pre .1);
         three = g .three;
         balance = omega (arith, g .balance);
       },
-      refl,
+      (omega arith, given-next (g .sent) (start .pre .1) (g .balance) (c .before .before .before .before .envelope-of .ensures) refl),
     )
 
 pub give-spec : {M : Type 1} → statement M

@@ -1,6 +1,6 @@
 -- `has_ended`: a yes only where no frame waits.
 -- Assumes nothing.
-use mathlib.Core.Path.{_≡_, sym}
+use mathlib.Core.Path.{sym}
 use mathlib.Core.Bool.{true≢false}
 use borrow.Author.Needs.{needs}
 use Rattle.tasks.proofs.reception.has_ended.Statement.{statement}

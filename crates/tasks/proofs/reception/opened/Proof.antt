@@ -3,7 +3,7 @@
 use mathlib.Core.Path.{refl}
 use native.Mathlib.Omega.{arith}
 use borrow.Author.Needs.{needs}
-use Rattle.tasks.proofs.Giving.{reached-start, none-yet}
+use Rattle.tasks.proofs.Giving.{sent-start, none-yet}
 use Rattle.tasks.proofs.reception.opened.Statement.{statement}
 use Rattle.tasks.proofs.reception.opened.Tie as tie
 
@@ -14,7 +14,7 @@ returns c = (
     few = omega arith;
     taken = omega arith;
     valid = c .new .ensures .0;
-    reached = reached-start _ (c .new .ensures .1);
+    sent = sent-start _ _ _ (c .new .ensures .1);
     waiting = omega arith;
     three = omega arith;
     balance = omega (arith, none-yet _ (c .new .ensures .1));

@@ -3,6 +3,7 @@
 use mathlib.Core.Path.{refl}
 use native.Mathlib.Omega.{arith}
 use borrow.Author.Needs.{needs}
+use Rattle.tasks.proofs.Giving.{none-waits}
 use Rattle.tasks.proofs.reception.refill.Statement.{statement}
 use Rattle.tasks.proofs.reception.refill.Tie as tie
 
@@ -16,7 +17,7 @@ returns c =
         few = search needs;
         taken = omega arith;
         valid = g .valid;
-        reached = g .reached;
+        sent = none-waits _ _ (g .sent);
         waiting = omega arith;
         three = omega arith;
         balance = omega (arith, g .balance, g .waiting, start .pre .1);

@@ -23,7 +23,7 @@ returns c =
     let got = known .before .before .before .before in
     let start = got .before .before .before in
     let more : got .receive .result .reception .frames ≡ start .args .w .reception .frames + 1
-    = got .receive .ensures .1 ∙ ap (λ (x : Next). start .args .w .reception .frames + gives x) (known .what .given .1) in
+    = got .receive .ensures .1 .0 ∙ ap (λ (x : Next). start .args .w .reception .frames + gives x) (known .what .given .1) in
     (got .receive .ensures .0, omega (arith, wrote .write-frame .ensures .1, start .pre .1, more))
 
 pub record-one-spec : {M : Type 1} → statement M

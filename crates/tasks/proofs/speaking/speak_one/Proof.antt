@@ -15,7 +15,7 @@ counted-requires c κs =
     let got = known .before .before .before .before in
     let start = got .before .before .before in
     let more : got .receive .result .reception .frames ≡ start .args .s .reception .frames + 1
-    = got .receive .ensures .1 ∙ ap (λ (x : Next). start .args .s .reception .frames + gives x) (known .what .given .1) in
+    = got .receive .ensures .1 .0 ∙ ap (λ (x : Next). start .args .s .reception .frames + gives x) (known .what .given .1) in
     (got .receive .ensures .0, omega (arith, more, start .pre .1))
 
 returns-2 : tie.Need-returns-2
@@ -23,7 +23,7 @@ returns-2 c =
     let got = c .before .before .before .before in
     let start = got .before .before .before in
     let same : got .receive .result .reception .frames ≡ start .args .s .reception .frames + 0
-    = got .receive .ensures .1 ∙ ap (λ (x : Next). start .args .s .reception .frames + gives x) (c .enum-told .given .1) in
+    = got .receive .ensures .1 .0 ∙ ap (λ (x : Next). start .args .s .reception .frames + gives x) (c .enum-told .given .1) in
     (got .receive .ensures .0, omega (arith, same, start .pre .1))
 
 pub speak-one-spec : {M : Type 1} → statement M

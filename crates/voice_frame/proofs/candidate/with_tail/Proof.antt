@@ -6,7 +6,7 @@ use lib.ListN.{length, getD, take, drop, length-drop}
 use lib.Seq.{length-take-le, getD-take, getD-drop}
 use Rattle.bits.specs.Bit.{tab}
 use Rattle.bits.proofs.Tabs.{is-tab}
-use Rattle.tail.specs.Encode.{tailOf}
+use Rattle.tail_making.specs.Encode.{tailOf}
 use Rattle.trials.specs.Encoded.{withTail}
 use borrow.Author.Needs.{needs}
 use Rattle.voice_frame.proofs.candidate.with_tail.Statement.{statement}

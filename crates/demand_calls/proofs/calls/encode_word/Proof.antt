@@ -1,0 +1,11 @@
+use Rattle.demand_calls.proofs.Carried.{written}
+use Rattle.demands.proofs.RefusedSizes as sizes
+use borrow.Author.Needs.{needs}
+use Rattle.demand_calls.proofs.calls.encode_word.Statement.{statement}
+use Rattle.demand_calls.proofs.calls.encode_word.Tie as tie
+
+returns : tie.Need-returns
+returns c = let e = c .before .before .encode-word .ensures in written (e .0) (e .1) (sizes.encode-word _)
+
+pub encode-word-spec : {M : Type 1} → statement M
+encode-word-spec = tie.close (tie.spec (λ c κs. search needs) (λ c. search needs) returns)

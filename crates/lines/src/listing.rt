@@ -1,0 +1,68 @@
+// What `listing` prints, and the line of what is refused.
+ghost use mathlib.Core.Path.{_≡_};
+ghost use Prim.Native.Nat.{_≤_};
+ghost use Rattle.texts.specs.Text.{lineOf};
+ghost use Rattle.journal.specs.Record.{bitOf};
+ghost use Rattle.lines.specs.Text.{frameWords, frameText, gapText, endText, refusedText};
+use texts::Line;
+use texts::empty;
+use texts::with_number;
+use texts::with_word;
+
+fn bit_number(b: bool) -> u64
+    ensures { λ r. ⌜ r ≡ bitOf b ⌝ }
+{
+    if b { 1 } else { 0 }
+}
+
+// A frame by its offset, whether it matched, and its errors, with the line not yet ended.
+pub(crate) fn frame_words(offset: u64, matched: bool, errors: u64) -> Line
+    ensures size { λ r. ⌜ r .size ≤ 68 ⌝ }
+    ensures text { λ r. ⌜ r ≡ lineOf (frameWords offset matched errors) ⌝ }
+{
+    let l0 = empty();
+    let l1 = with_word(l0, b"frame");
+    let l2 = with_number(l1, offset);
+    let l3 = with_number(l2, bit_number(matched));
+    with_number(l3, errors)
+}
+
+pub fn frame_line(offset: u64, matched: bool, errors: u64) -> Line
+    ensures { λ r. ⌜ r ≡ lineOf (frameText offset matched errors) ⌝ }
+{
+    let words = frame_words(offset, matched, errors);
+    with_word(words, b"\n")
+}
+
+pub fn gap_line(offset: u64, length: u64) -> Line
+    ensures { λ r. ⌜ r ≡ lineOf (gapText offset «length») ⌝ }
+{
+    let l0 = empty();
+    let l1 = with_word(l0, b"gap");
+    let l2 = with_number(l1, offset);
+    let l3 = with_number(l2, length);
+    with_word(l3, b"\n")
+}
+
+// The last line, with its three counts.
+pub fn end_line(a: u64, b: u64, c: u64) -> Line
+    ensures { λ r. ⌜ r ≡ lineOf (endText a b c) ⌝ }
+{
+    let l0 = empty();
+    let l1 = with_word(l0, b"end");
+    let l2 = with_number(l1, a);
+    let l3 = with_number(l2, b);
+    let l4 = with_number(l3, c);
+    with_word(l4, b"\n")
+}
+
+// What is refused, by two numbers.
+pub(crate) fn refused_line(first: u64, second: u64) -> Line
+    ensures { λ r. ⌜ r ≡ lineOf (refusedText first second) ⌝ }
+{
+    let l0 = empty();
+    let l1 = with_word(l0, b"refused");
+    let l2 = with_number(l1, first);
+    let l3 = with_number(l2, second);
+    with_word(l3, b"\n")
+}

@@ -1,0 +1,4 @@
+mod Reading
+mod Steps
+mod Telling
+mod Wholes

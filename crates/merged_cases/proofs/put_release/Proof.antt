@@ -1,0 +1,28 @@
+-- `put_release` puts the bytes of a released frame.
+-- Assumes nothing.
+use Rattle.case_bytes.proofs.Puts.{put-more}
+use borrow.Author.Needs.{needs}
+use Rattle.merged_cases.proofs.put_release.Statement.{statement}
+use Rattle.merged_cases.proofs.put_release.Tie as tie
+
+returns : tie.Need-returns
+returns c =
+    let last = c .before .before in
+    let number = last .before .before .before .before in
+    let errors = number .before .before .before .before in
+    let flag = errors .before .before .before .before .before in
+    let offset = flag .before .before .before .before in
+    put-more (offset .put-number .ensures) (put-more (flag .put-flag .ensures) (put-more (errors .put-number2 .ensures) (put-more (number .put-number3 .ensures) (last .put-flag2 .ensures))))
+
+pub put-release-spec : {M : Type 1} → statement M
+put-release-spec =
+    tie.close
+    (tie.spec
+    (λ c κs. search needs)
+    (λ c κs. search needs)
+    (λ c. search needs)
+    (λ c κs. search needs)
+    (λ c κs. search needs)
+    (λ c κs. search needs)
+    (λ c. search needs)
+    returns)

@@ -1,9 +1,0 @@
-use Rattle.merger.proofs.Kept.{from-kept}
-use Rattle.merger.proofs.theorems.from_kept.Statement.{statement}
-use Rattle.merger.proofs.theorems.from_kept.Tie as tie
-
-returns : tie.Need-returns
-returns c = record { all = from-kept }
-
-pub from-kept-spec : {M : Type 1} → statement M
-from-kept-spec = tie.close (tie.spec returns)

@@ -1,0 +1,52 @@
+// The positions in order: the place of a frame, one position more, and the first taken out.
+ghost use mathlib.Core.Path.{_≡_};
+ghost use Prim.Native.Nat.{ℕ, _+_, _-_, _^_, _≤_, _<_};
+ghost use lib.ListN.{take, drop, getD};
+ghost use Rattle.merger_rules.specs.Merging.{insertAt, noPosition};
+ghost use Rattle.merger_rules.specs.States.{belowOf};
+use merger_rules::Position;
+
+// How many positions, from the first, lie more than 191 below the offset.
+pub fn below(positions: [Position; 16], n: usize, offset: u64) -> usize
+    requires { ⌜ n ≤ 16 ⌝ ∗ ⌜ ((i : ℕ) → i < n → getD positions i noPosition .key ≤ 2 ^ 42) ⌝ }
+    ensures { λ r. ⌜ (r ≡ belowOf offset (take n positions)) × (r ≤ n) ⌝ }
+{
+    let mut i = 0;
+    while i < n {
+        let key = positions[i].key;
+        if offset <= key + 191 {
+            return i;
+        }
+        i += 1;
+    }
+    i
+}
+
+// The positions with one more at a place.
+pub fn with_position(positions: [Position; 16], n: usize, at: usize, p: Position) -> [Position; 16]
+    requires { ⌜ (at ≤ n) × (n < 16) ⌝ }
+    ensures { λ r. ⌜ take (n + 1) r ≡ insertAt at p (take n positions) ⌝ }
+{
+    let mut out = positions;
+    out[at] = p;
+    let mut j = at;
+    while j < n {
+        out[j + 1] = positions[j];
+        j += 1;
+    }
+    out
+}
+
+// The positions without the first.
+pub fn without_first(positions: [Position; 16], n: usize) -> [Position; 16]
+    requires { ⌜ (0 < n) × (n ≤ 16) ⌝ }
+    ensures { λ r. ⌜ take (n - 1) r ≡ drop 1 (take n positions) ⌝ }
+{
+    let mut out = positions;
+    let mut j = 1;
+    while j < n {
+        out[j - 1] = positions[j];
+        j += 1;
+    }
+    out
+}

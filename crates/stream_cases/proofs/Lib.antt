@@ -1,0 +1,3 @@
+mod Frames
+mod Parts
+mod Telling

@@ -1,0 +1,29 @@
+-- A part of a list, as far as there is one; and the number of two bytes.
+-- Assumes nothing.
+use mathlib.Core.Path.{_≡_, sym, ap, ap₂, _∙_}
+use mathlib.Core.List.{List, []}
+use Prim.Native.Nat.{ℕ, _+_, _-_, _*_, _<_, _≤_}
+use native.Mathlib.Nat.{le-refl}
+use native.Mathlib.Omega.{arith}
+use lib.ListN.{length, getD, take, drop, length-drop, drop-of-length-le}
+use lib.Seq.{take-all}
+use Rattle.stream_cases.specs.Streams.{named}
+
+-- behind the end there is nothing
+pub part-past : (l : List ℕ) (from n : ℕ) → length l ≤ from → take (length l - length l) (drop (length l) l) ≡ take n (drop from l)
+part-past l from n h =
+    ap (take (length l - length l)) (drop-of-length-le l (le-refl (length l)))
+    ∙ take-all (length l - length l) [] (omega arith)
+    ∙ sym (ap (take n) (drop-of-length-le l h) ∙ take-all n [] (omega arith))
+
+-- to the end
+pub part-short : (l : List ℕ) (from n : ℕ) → length l - from < n → take (length l - from) (drop from l) ≡ take n (drop from l)
+part-short l from n h =
+    take-all (length l - from) (drop from l) (simp length-drop (le-refl _)) ∙ sym (take-all n (drop from l) (simp length-drop (omega arith)))
+
+-- all of it
+pub part-whole : (l : List ℕ) (from n : ℕ) → take (from + n - from) (drop from l) ≡ take n (drop from l)
+part-whole l from n = let same : from + n - from ≡ n = omega arith in ap (λ (k : ℕ). take k (drop from l)) same
+
+pub named-is : {w h l : ℕ} (input : List ℕ) (i : ℕ) → w ≡ 256 * h + l → h ≡ getD input i 0 → l ≡ getD input (i + 1) 0 → w ≡ named input i
+named-is input i e high low = e ∙ ap₂ (λ (h l : ℕ). 256 * h + l) high low

@@ -1,0 +1,16 @@
+pub mod Rings
+pub mod Marks
+pub mod Finds
+pub mod Fronts
+pub mod Searches
+pub mod Rooms
+pub mod Sents
+pub mod Framing
+pub mod Sending
+pub mod Looks
+pub mod Drains
+pub mod Bringing
+pub mod Quiets
+pub mod Answering
+pub mod Feeding
+pub mod Inputs

@@ -1,0 +1,29 @@
+-- `sync_steps::feeds::push_of` meets its contract.
+-- Assumes nothing.
+use Rattle.sync_steps.proofs.Inputs.{of-hard, of-soft, of-packed}
+use borrow.Author.Needs.{needs}
+use Rattle.sync_steps.proofs.feeds.push_of.Statement.{statement}
+use Rattle.sync_steps.proofs.feeds.push_of.Tie as tie
+
+returns : tie.Need-returns
+returns c = of-hard _ _ _ _ _ _ (c .before .enum-told .given .1) (c .hard-at .ensures)
+
+returns-2 : tie.Need-returns-2
+returns-2 c = of-soft _ _ _ _ _ _ (c .before .enum-told2 .given .1) (c .soft-at .ensures)
+
+returns-3 : tie.Need-returns-3
+returns-3 c = of-packed _ _ _ _ _ _ (c .before .enum-told3 .given .1) (c .packed-at .ensures)
+
+pub push-of-spec : {M : Type 1} → statement M
+push-of-spec =
+    tie.close
+    (tie.spec
+    (λ c. search needs)
+    (λ c κs. search needs)
+    (λ c. search needs)
+    (λ c κs. search needs)
+    (λ c. search needs)
+    (λ c κs. search needs)
+    returns
+    returns-2
+    returns-3)

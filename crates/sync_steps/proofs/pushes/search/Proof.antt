@@ -1,0 +1,50 @@
+-- `sync_steps::pushes::search` meets its contract.
+-- Assumes nothing.
+use mathlib.Core.Path.{_≡_, refl, sym, ap, _∙_}
+use native.Mathlib.Omega.{arith}
+use Prim.Native.Nat.{ℕ, _+_, _-_}
+use denote.Ref.{now}
+use Rattle.sync_steps.specs.Ring.{ring}
+use Rattle.sync_rules.specs.Matching.{firstOf, locksAt}
+use Rattle.sync_steps.proofs.Searches.{unmoved, found, missed}
+use borrow.Author.Needs.{needs}
+use Rattle.sync_steps.proofs.pushes.search.Statement.{statement}
+use Rattle.sync_steps.proofs.pushes.search.Tie as tie
+
+returns : tie.Need-returns
+returns c = unmoved _ _ (c .before .pre .1 .0) (c .before .pre .1 .1 .0) (c .before .pre .1 .1 .1) (c .if1 .taken)
+
+returns-2 : tie.Need-returns-2
+returns-2 c =
+    let s = c .before .before .before .before .before .before .before in
+    let k = s .args .c in
+    let xs = now (s .args .bits) in
+    let tr = c .before .before .before .before .tries-of .ensures in
+    let fd = c .before .before .before .find .ensures in
+    found xs k (s .pre .1 .0) (s .pre .1 .1 .0) (c .before .before .before .before .before .before .if1 .left) _
+    (fd .0 (k .pending) (λ p h. omega arith) ∙ ap (firstOf (locksAt (ring xs (k .first + k .restorable) (k .pending))) 0) tr)
+    (omega arith) _ (c .before .before .dropped .ensures) (omega (arith, tr, c .if2 .taken))
+
+returns-3 : tie.Need-returns-3
+returns-3 c =
+    let s = c .before .before .before .before .before .before .before in
+    let k = s .args .c in
+    let xs = now (s .args .bits) in
+    let tr = c .before .before .before .before .tries-of .ensures in
+    let fd = c .before .before .before .find .ensures in
+    missed xs k (s .pre .1 .0) (s .pre .1 .1 .0) (c .before .before .before .before .before .before .if1 .left) _
+    (fd .0 (k .pending) (λ p h. omega arith) ∙ ap (firstOf (locksAt (ring xs (k .first + k .restorable) (k .pending))) 0) tr)
+    (omega arith) _ (c .before .before .dropped .ensures) (omega (arith, tr, c .if2 .left))
+
+pub search-spec : {M : Type 1} → statement M
+search-spec =
+    tie.close
+    (tie.spec
+    returns
+    (λ c. search needs)
+    (λ c κs. search needs)
+    (λ c κs. search needs)
+    (λ c κs. search needs)
+    (λ c. search needs)
+    returns-2
+    returns-3)

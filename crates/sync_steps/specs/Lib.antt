@@ -1,0 +1,5 @@
+pub mod Ring
+pub mod View
+pub mod Steps
+pub mod Answers
+pub mod Feeds

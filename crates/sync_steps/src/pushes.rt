@@ -1,0 +1,190 @@
+// The parts of a push: its tests, its two bits, the search where there is no lock, and its frames.
+ghost use mathlib.Core.Path.{_≡_};
+ghost use mathlib.Core.Bool.{true, false};
+ghost use Prim.Native.Nat.{ℕ, _+_, _-_, _%_, _^_, _<_, _≤_};
+ghost use lib.ListN.{length, set};
+ghost use Rattle.bits.specs.Bit.{Bits};
+ghost use Rattle.sync_steps.specs.Ring.{ring};
+ghost use Rattle.sync_steps.specs.View.{Sound, Low, Steady, Rings};
+ghost use Rattle.sync_steps.specs.Steps.{Brought, Searched, Waiting, SentAfter, inputOf, hardGiven, softGiven};
+ghost use Rattle.sync_steps.specs.Answers.{answerBy, takes};
+ghost use Rattle.sync_rules.specs.Matching.{firstOf, locksAt};
+use super::Push;
+use super::frames::Drained;
+use super::frames::drain;
+use super::markers::three_frames;
+use super::numbers::Numbers;
+use super::numbers::appended;
+use super::numbers::dropped;
+use bits::Refusal;
+
+// What a push brings: a dibit, the reliabilities of its two bits, and whether it is a soft push. `more` is false where there is none to make.
+pub struct Given {
+    pub more: bool,
+    pub dibit: u8,
+    pub first: u8,
+    pub second: u8,
+    pub soft: bool,
+}
+
+// A hard push.
+pub fn hard_given(dibit: u8) -> Given
+    ensures { λ r. ⌜ r ≡ hardGiven dibit ⌝ }
+{
+    Given {
+        more: true,
+        dibit,
+        first: 255,
+        second: 255,
+        soft: false,
+    }
+}
+
+// A soft push.
+pub fn soft_given(dibit: u8, first: u8, second: u8) -> Given
+    ensures { λ r. ⌜ r ≡ softGiven dibit first second ⌝ }
+{
+    Given {
+        more: true,
+        dibit,
+        first,
+        second,
+        soft: true,
+    }
+}
+
+// The first of `tries` places from `base` on where three frames show themselves, or `tries`.
+fn find(bits: &[u8; 1155], base: usize, tries: usize) -> usize
+    requires { ⌜ Bits (now bits) ⌝ ∗ ⌜ base < 2000 ⌝ ∗ ⌜ tries < 2000 ⌝ }
+    ensures { λ r. ⌜ ((n : ℕ) → ((p : ℕ) → p < tries → p + 1152 ≤ n) → r ≡ firstOf (locksAt (ring (now (bits .entry)) base n)) 0 tries) ⌝ }
+    ensures few { λ r. ⌜ r ≤ tries ⌝ }
+{
+    let mut pos: usize = 0;
+    while pos < tries {
+        let found = three_frames(bits, base + pos);
+        if found {
+            return pos;
+        }
+        pos += 1;
+    }
+    pos
+}
+
+// At how many places 1,152 bits are pending.
+fn tries_of(pending: usize) -> usize
+    ensures { λ r. ⌜ r ≡ pending - 1151 ⌝ }
+{
+    if pending < 1152 {
+        return 0;
+    }
+    pending - 1151
+}
+
+// The search, where there is no lock.
+fn search(bits: &[u8; 1155], c: Numbers) -> Numbers
+    requires { ⌜ Bits (now bits) ⌝ ∗ ⌜ Sound c ⌝ ∗ ⌜ Low c ⌝ ∗ ⌜ (c .locked ≡ true → c .failures ≤ 2) ⌝ }
+    ensures { λ r. ⌜ Searched (now (bits .entry)) c r ⌝ }
+{
+    if c.locked {
+        return c;
+    }
+    let base = c.first + c.restorable;
+    let tries = tries_of(c.pending);
+    let pos = find(bits, base, tries);
+    let mut d = dropped(c, pos);
+    d.clock = c.clock + pos as u64;
+    if pos < tries {
+        d.locked = true;
+        d.failures = 0;
+        return d;
+    }
+    d
+}
+
+// A place of the ring, round its end.
+fn in_ring(place: usize) -> usize
+    requires { ⌜ place < 2310 ⌝ }
+    ensures { λ r. ⌜ r ≡ place % 1155 ⌝ }
+{
+    if place < 1155 {
+        return place;
+    }
+    place - 1155
+}
+
+// Two values put behind the held ones, which end before place `end`.
+pub fn put(ring: &mut [u8; 1155], end: usize, first: u8, second: u8)
+    requires { ⌜ length (now ring) ≡ 1155 ⌝ ∗ ⌜ end < 2309 ⌝ }
+    ensures { λ r. ⌜ now (ring .exit) ≡ set (set (now (ring .entry)) (end % 1155) first) ((end + 1) % 1155) second ⌝ }
+{
+    let p = in_ring(end);
+    let q = in_ring(end + 1);
+    ring[p] = first;
+    ring[q] = second;
+}
+
+// The bits of a push and their reliabilities brought into the rings.
+pub(crate) fn brought(
+    bits: &mut [u8; 1155],
+    reliabilities: &mut [u8; 1155],
+    k: Numbers,
+    x: Given,
+) -> Numbers
+    requires { ⌜ Steady k ⌝ ∗ ⌜ (k .pending ≤ 1151) × (k .taken < 2 ^ 40) ⌝ ∗ ⌜ Rings (now bits) (now reliabilities) ⌝ ∗ ⌜ x .dibit < 4 ⌝ }
+    ensures { λ r. ⌜ Brought (now (bits .entry)) (now (reliabilities .entry)) (now (bits .exit)) (now (reliabilities .exit)) k (inputOf x) r ⌝ }
+{
+    let end = k.first + (k.restorable + k.pending);
+    put(&mut *bits, end, x.dibit / 2, x.dibit % 2);
+    put(&mut *reliabilities, end, x.first, x.second);
+    appended(k, x.soft)
+}
+
+// The answer to a push: tests 1, 2 and 3 in this order.
+pub fn answer_to(taken: u64, dibit: u8, room: usize) -> Push
+    ensures { λ r. ⌜ r ≡ answerBy room dibit taken ⌝ }
+{
+    if 3 < dibit {
+        return Push::Refused(Refusal::Dibit);
+    }
+    if room < 1296 {
+        return Push::Refused(Refusal::FrameRoom);
+    }
+    if 1099511627776 <= taken {
+        return Push::Refused(Refusal::StreamEnd);
+    }
+    Push::Taken
+}
+
+// How many pushes were made: 1, or 0 of a refused one.
+pub fn made(answer: Push) -> usize
+    ensures { λ r. ⌜ r ≡ takes answer ⌝ }
+{
+    match answer {
+        Push::Taken => 1,
+        Push::Refused(_) => 0,
+    }
+}
+
+// Whether bits enough are pending for a frame, or without a lock for a search. After most pushes they are not.
+pub fn enough(k: Numbers) -> bool
+    ensures { λ r. ⌜ (r ≡ false → Waiting k) ⌝ }
+{
+    if k.locked {
+        return 384 <= k.pending;
+    }
+    1152 <= k.pending
+}
+
+// What follows once the bits of a push are brought: a search where there is no lock, then the frames that are ready.
+pub fn sends<'a>(
+    bits: &'a [u8; 1155],
+    reliabilities: &'a [u8; 1155],
+    k: Numbers,
+    room: &mut [u8],
+) -> Drained
+    requires { ⌜ Bits (now bits) ⌝ ∗ ⌜ Steady k ⌝ ∗ ⌜ 1296 ≤ length (now room) ⌝ }
+    ensures { λ r. ⌜ SentAfter (now (bits .entry)) (now (reliabilities .entry)) (now (room .entry)) (now (room .exit)) k r ⌝ }
+{
+    let found = search(bits, k);
+    drain(bits, reliabilities, found, room)
+}

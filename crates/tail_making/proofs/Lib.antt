@@ -1,0 +1,5 @@
+pub mod Linear
+pub mod Registers
+pub mod Written
+pub mod Encoding
+pub mod Called

@@ -1,0 +1,60 @@
+// Text put into a line, from left to right.
+ghost use mathlib.Core.Path.{_≡_};
+ghost use mathlib.Core.List.{List, [], _∷_, _++_};
+ghost use Prim.Native.Nat.{ℕ, _+_, _≤_};
+ghost use lib.ListN.{length};
+ghost use lib.Seq.{paste};
+ghost use Rattle.texts.specs.Decimal.{decimal};
+ghost use Rattle.texts.specs.Text.{lineOf};
+use crate::Line;
+
+pub fn empty() -> Line
+    ensures size { λ r. ⌜ r .size ≡ 0 ⌝ }
+    ensures text { λ r. ⌜ r ≡ lineOf [] ⌝ }
+{
+    Line {
+        size: 0,
+        bytes: [0; 128],
+    }
+}
+
+// The bytes with a word written over them from `at` on.
+fn put(bytes: [u8; 128], at: usize, word: &[u8]) -> [u8; 128]
+    requires { ⌜ at + length (now word) ≤ 128 ⌝ }
+    ensures { λ r. ⌜ r ≡ paste bytes at (now (word .entry)) (length (now (word .entry))) ⌝ }
+{
+    let mut out = bytes;
+    let mut j = 0;
+    while j < word.len() {
+        out[at + j] = word[j];
+        j += 1;
+    }
+    out
+}
+
+// The line with a word behind it.
+pub fn with_word(line: Line, word: &[u8]) -> Line
+    requires { ⌜ line .size + length (now word) ≤ 128 ⌝ }
+    ensures size { λ r. ⌜ r .size ≡ line .size + length (now (word .entry)) ⌝ }
+    ensures text { λ r. ⌜ ((t : List ℕ) → line ≡ lineOf t → r ≡ lineOf (t ++ now (word .entry))) ⌝ }
+{
+    let size = line.size;
+    let bytes = line.bytes;
+    let longer = put(bytes, size, word);
+    Line {
+        size: size + word.len(),
+        bytes: longer,
+    }
+}
+
+// The line with a space and a number behind it.
+pub fn with_number(line: Line, n: u64) -> Line
+    requires { ⌜ line .size + 21 ≤ 128 ⌝ }
+    ensures size { λ r. ⌜ r .size ≤ line .size + 21 ⌝ }
+    ensures text { λ r. ⌜ ((t : List ℕ) → line ≡ lineOf t → r ≡ lineOf (t ++ (32 ∷ decimal n))) ⌝ }
+{
+    let spaced = with_word(line, b" ");
+    let mut digits = [0u8; 20];
+    let k = io::decimal(n, &mut digits);
+    with_word(spaced, &digits[..k])
+}
