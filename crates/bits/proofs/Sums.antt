@@ -37,6 +37,19 @@ zero-sum zero f h k l = absurd (omega arith)
 zero-sum (suc n) f h zero l = omega arith
 zero-sum (suc n) f h (suc k) l = zero-sum n (λ j. f (suc j)) (omega arith) k (omega arith)
 
+-- a sum of which only the term at i is not zero is that term
+pub sum-one : (n : ℕ) (f : ℕ → ℕ) (i : ℕ) → i < n → ((k : ℕ) → (k ≡ i → ⊥) → f k ≡ 0) → sum n f ≡ f i
+unfolding sum
+sum-one zero f i h z = absurd (omega arith)
+sum-one (suc n) f zero h z = omega (arith, sum-zero n (λ j. f (suc j)) (λ j l. z (suc j) (λ e. omega arith)))
+sum-one (suc n) f (suc i) h z = omega (arith, z 0 (λ e. omega arith), sum-one n (λ j. f (suc j)) i (omega arith) (λ k o. z (suc k) (λ e. o (omega arith))))
+
+-- the sum of two functions
+pub sum-plus : (n : ℕ) (f g : ℕ → ℕ) → sum n (λ k. f k + g k) ≡ sum n f + sum n g
+unfolding sum
+sum-plus zero f g = refl
+sum-plus (suc n) f g = omega (arith, sum-plus n (λ j. f (suc j)) (λ j. g (suc j)))
+
 -- the places below 2n, as n even ones and n odd ones
 pub sum-pairs : (n : ℕ) (f : ℕ → ℕ) → sum (2 * n) f ≡ sum n (λ i. f (2 * i)) + sum n (λ i. f (2 * i + 1))
 unfolding sum

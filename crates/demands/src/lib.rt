@@ -4,6 +4,7 @@ ghost use Rattle.demands.specs.Demand1.{Demand1};
 ghost use Rattle.demands.specs.Demand2.{Demand2};
 ghost use Rattle.demands.specs.Demand3.{Demand3, Statements};
 ghost use Rattle.demands.specs.Examples.{Holds, starred};
+ghost use Rattle.demands.specs.NoBetter.{NoBetterPath};
 
 // Demand 1: bad input is refused with its number from document 01, the state is the one before the call, lent memory keeps its bytes; a field a call.
 pub fn demand_one()
@@ -39,3 +40,11 @@ pub fn synchroniser_statements()
 pub fn starred_examples()
     ensures { λ _. ⌜ All Holds starred ⌝ }
 {}
+
+// Document 02, A9: no other bits that end in eight zeros are coded nearer to what was received than those that the path search finds.
+pub fn no_better_path()
+    ensures { λ _. ⌜ NoBetterPath ⌝ }
+{
+    path_rules::nearest_path();
+    trials::nearest_tried();
+}

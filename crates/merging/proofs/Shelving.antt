@@ -4,7 +4,6 @@ use mathlib.Core.Path.{_≡_, refl, sym, ap, _∙_}
 use mathlib.Core.Bool.{Bool, true, false, cond}
 use mathlib.Core.List.{List, [], _∷_}
 use Prim.Native.Nat.{ℕ, zero, suc, _+_, _*_, _≤_, _<_, suc-le-suc}
-use native.Mathlib.Numerals.{add-one}
 use native.Mathlib.Omega.{arith}
 use lib.Dec.{eqb, ltb}
 use lib.ListN.{length, getD, set, replicate, length-set}
@@ -12,8 +11,7 @@ use lib.Seq.{getD-set-same, getD-set-other}
 use borrow.Author.Tests.{eqb-true, eqb-false, ltb-true, ltb-false}
 use Rattle.bits.specs.Bit.{sum}
 use Rattle.bits.proofs.Conds.{cond-eq, cond-ne, cond-both}
-use Rattle.bits.proofs.Sums.{sum-ext, sum-zero}
-use Rattle.bits.proofs.Turns.{sum-last}
+use Rattle.bits.proofs.Sums.{sum-ext, sum-zero, sum-one, sum-plus}
 use Rattle.merger_rules.specs.Counts.{one, inPlace, inFree, pendingOf, inFreed}
 use Rattle.merger_rules.specs.declared.Free.{Free}
 use Rattle.merger_rules.specs.declared.Free.the-variants.{Nothing, Number}
@@ -25,11 +23,6 @@ use Rattle.merging.specs.Accounts.{bitAt, used, Small, cleared, countFre
 
 -- ---- sums over the slots
 
-sum-plus : (n : ℕ) (f g : ℕ → ℕ) → sum n (λ x. f x + g x) ≡ sum n f + sum n g
-unfolding sum
-sum-plus zero f g = omega arith
-sum-plus (suc n) f g = omega (arith, sum-plus n (λ j. f (suc j)) (λ j. g (suc j)))
-
 pub one-same : (k : ℕ) → one k k ≡ 1
 one-same k = cond-eq {A = ℕ} k k 1 0 refl
 
@@ -40,18 +33,7 @@ one-past : (n k : ℕ) → n ≤ k → sum n (λ x. one x k) ≡ 0
 one-past n k h = sum-zero n (λ x. one x k) (λ x l. one-other x k (λ e. omega arith))
 
 one-within : (n k : ℕ) → k < n → sum n (λ x. one x k) ≡ 1
-one-within zero k h = absurd (omega arith)
-one-within (suc n) k h = by (λ l. one-within n k l) (ltb k n) refl
-  where
-    last : sum (suc n) (λ x. one x k) ≡ sum n (λ x. one x k) + one n k
-    last = ap (λ (m : ℕ). sum m (λ x. one x k)) (sym (add-one n)) ∙ sum-last n (λ x. one x k)
-
-    by : (k < n → sum n (λ x. one x k) ≡ 1) → (b : Bool) → ltb k n ≡ b → sum (suc n) (λ x. one x k) ≡ 1
-    by rec true e = let l : k < n = ltb-true k n e in omega (arith, last, rec l, one-other n k (λ f. omega arith))
-    by rec false e =
-        let l : n ≤ k = ltb-false k n e in
-        let same : one n k ≡ 1 = cond-eq {A = ℕ} k n 1 0 (omega arith) in
-        omega (arith, last, one-past n k l, same)
+one-within n k h = sum-one n (λ x. one x k) k h (λ x o. one-other x k (λ e. o (sym e))) ∙ one-same k
 
 one-few : (n k : ℕ) → sum n (λ x. one x k) ≤ 1
 one-few n k = by (ltb k n) refl

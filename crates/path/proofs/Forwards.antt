@@ -1,18 +1,12 @@
 -- The forward loop: costs, step by step.
 -- Assumes nothing.
 use mathlib.Core.Path.{_≡_, _∙_, refl}
-use Prim.Native.Nat.{ℕ, zero, suc, _+_, _-_, _*_, _/_, _<_, _≤_}
+use Prim.Native.Nat.{ℕ, zero, suc, _+_, _*_, _/_, _<_, _≤_}
 use native.Mathlib.Omega.{arith}
 use native.Mathlib.Numerals.{add-one}
-use lib.Dec.{ltb}
 use lib.ListN.{getD, set, replicate, getD-replicate}
 use lib.Seq.{getD-set-other}
-use Rattle.bits.proofs.Conds.{cond-both}
-use Rattle.path.specs.Path.{arrive, survivor, start, best}
-
-pub survivor-small : (c e : ℕ → ℕ) (s : ℕ) → survivor c e s < 2
-unfolding survivor
-survivor-small c e s = cond-both (λ (v : ℕ). v < 2) (ltb (c (s / 2 + 128) + e (s + 256)) (c (s / 2) + e s)) 1 0 (omega arith) (omega arith)
+use Rattle.path_rules.specs.Path.{arrive, survivor, start, best}
 
 module _ (c b e f : ℕ → ℕ) (same : (s : ℕ) → s < 256 → c s ≡ b s) (costs : (r : ℕ) → e r ≡ f r) (s : ℕ) (h : s < 256) where
   pub arrive-cong : arrive c e s ≡ arrive b f s

@@ -1,4 +1,3 @@
 pub mod Pairs
 pub mod Forwards
 pub mod Rows
-pub mod Agree

@@ -2,27 +2,17 @@
 -- Assumes nothing.
 use mathlib.Core.Bool.{Bool, true, false, cond, _&&_}
 use mathlib.Core.Path.{_≡_, refl}
-use Prim.Native.Nat.{ℕ, _+_, _-_, _*_, _/_, _<_, _≤_, min}
+use Prim.Native.Nat.{ℕ, _+_, _-_, _*_, _/_, _<_, min}
 use native.Mathlib.Omega.{arith}
 use borrow.Author.Tests.{eqb-true, eqb-false}
 use lib.Dec.{T, ltb, eqb, eqb→eq}
 use lib.Count.{ones, onesIn}
 use Rattle.bits.specs.Alls.{allBelow}
 use Rattle.bits.proofs.Computed.{below, both-left, both-right}
-use Rattle.bits.proofs.Conds.{cond-both}
 use Rattle.protected.specs.Convolution.{parityOf}
-use Rattle.path.specs.declared.Seen.{Seen}
-use Rattle.path.specs.Path.{disagree, weigh, arrive, survivor}
+use Rattle.path_rules.specs.declared.Seen.{Seen}
+use Rattle.path_rules.specs.Path.{disagree, weigh, arrive, survivor}
 use Rattle.path.specs.Steps.{Weighed}
-
--- ---- weights
-
-pub disagree-le : (w x y : ℕ) → disagree w x y ≤ w
-disagree-le w x y = cond-both (λ (v : ℕ). v ≤ w) (eqb x y) 0 w (omega arith) (omega arith)
-
-pub weigh-le : (o : Seen) (r : ℕ) → weigh o r ≤ o .wa + o .wb
-unfolding weigh
-weigh-le o r = omega (arith, disagree-le (o .wa) (parityOf 0x11d r) (o .a), disagree-le (o .wb) (parityOf 0x1af r) (o .b))
 
 -- ---- the parities of a register: both masks have their lowest and their highest bit
 

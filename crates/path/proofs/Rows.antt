@@ -2,17 +2,15 @@
 -- Assumes nothing.
 use mathlib.Core.Path.{_≡_, _∙_, refl, ap}
 use mathlib.Core.List.{List, [], _∷_, _++_, append-assoc}
-use Prim.Native.Nat.{ℕ, zero, suc, _+_, _-_, _*_, _/_, _%_, _^_, _<_}
+use Prim.Native.Nat.{ℕ, zero, suc, _+_, _*_, _/_, _%_, _^_, _<_}
 use native.Mathlib.Nat.{add-zero}
 use native.Mathlib.Omega.{arith}
 use native.Mathlib.Numerals.{add-one}
-use lib.ListN.{length, getD, set, drop, length-set, length-append}
+use lib.ListN.{length, getD, set, drop, length-set}
 use lib.Seq.{getD-set-same, drop-cons, drop-set-lt}
-use Rattle.bits.specs.Bit.{bitLo, Bits}
-use Rattle.bits.proofs.Belows.{below-none, below-append, below-cons}
+use Rattle.bits.specs.Bit.{bitLo}
 use Rattle.bits.proofs.Filling.{set-more}
-use Rattle.protected.specs.Convolution.{Input}
-use Rattle.path.specs.Path.{survivorAt, walk, path, costOf, searchedBy}
+use Rattle.path_rules.specs.Path.{walk}
 
 -- ---- a list that is filled by twos
 
@@ -83,22 +81,3 @@ walk-cong h g (suc n) e small s hs =
     rw (e n (omega arith) s hs)
     (ap (λ (l : List ℕ). l ++ (s % 2 ∷ []))
     (walk-cong h g n (λ k hk. e k (omega arith)) small (s / 2 + 128 * g n s) (omega (arith, small n s))))
-
--- the walk's bits are bits, one to a step
-module _ (h : ℕ → ℕ → ℕ) where
-  length-walk : (t s : ℕ) → length (walk h t s) ≡ t
-  unfolding walk
-  length-walk zero s = refl
-  length-walk (suc t) s =
-      length-append (walk h t (s / 2 + 128 * h t s)) (s % 2 ∷ []) ∙ omega (arith, length-walk t (s / 2 + 128 * h t s))
-
-  walk-bits : (t s : ℕ) → Bits (walk h t s)
-  unfolding walk
-  walk-bits zero s = below-none 2 (omega arith)
-  walk-bits (suc t) s = below-append (walk h t (s / 2 + 128 * h t s)) (walk-bits t (s / 2 + 128 * h t s)) (below-cons (omega arith) (below-none 2 (omega arith)))
-
--- what the search finds is an input
-pub found-input : (table received weights : List ℕ) → Input (searchedBy table received weights)
-unfolding searchedBy path
-found-input table received weights =
-    record { long = length-walk (survivorAt (costOf table received weights)) 94 0; bits = walk-bits (survivorAt (costOf table received weights)) 94 0 }

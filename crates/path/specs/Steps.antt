@@ -8,8 +8,8 @@ use lib.Dec.{ltb}
 use lib.ListN.{getD}
 use Rattle.bits.specs.Bit.{bitLo}
 use Rattle.protected.specs.Convolution.{parityOf}
-use Rattle.path.specs.Path.{weigh, arrive, survivor}
-use Rattle.path.specs.declared.Seen.{Seen}
+use Rattle.path_rules.specs.Path.{weigh, arrive, survivor}
+use Rattle.path_rules.specs.declared.Seen.{Seen}
 use Rattle.path.specs.declared.Stepped.{Stepped}
 use Rattle.path.specs.declared.Pair.{Pair}
 

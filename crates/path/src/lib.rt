@@ -1,5 +1,6 @@
 // The path search over the 256 states of the code, hard and weighted: one search, whose costs are exact. Each step looks at pairs of states:
-// the two ways into 2 p and into 2 p + 1 start from the same two prior states. Definitions in specs/Path.antt.
+// the two ways into 2 p and into 2 p + 1 start from the same two prior states. What it finds is defined in the crate path_rules (specs/Path.antt), and so is what that means
+// (specs/Nearest.antt).
 ghost use mathlib.Core.Path.{_≡_};
 ghost use mathlib.Core.Bool.{cond};
 ghost use Prim.Native.Nat.{ℕ, _+_, _*_, _/_, _%_, _^_, _<_, _≤_, min};
@@ -8,22 +9,9 @@ ghost use lib.Dec.{ltb};
 ghost use lib.Count.{ones};
 ghost use Rattle.bits.specs.Bit.{bitLo, tab, Bits};
 ghost use Rattle.protected.specs.Table.{Admitted};
-ghost use Rattle.path.specs.Path.{disagree, weigh, walk, seenAt, searchedBy, searched};
+ghost use Rattle.path_rules.specs.Path.{disagree, weigh, walk, seenAt, searchedBy, searched};
 ghost use Rattle.path.specs.Steps.{kept, pairOf, Weighed, IsPair, IsStep};
-ghost use Rattle.path.specs.Statements.{SamePaths};
-
-// The source's two ways of counting costs find the same path.
-pub fn same_paths()
-    ensures { λ _. ⌜ SamePaths ⌝ }
-{}
-
-// What a step has seen: the bit of the odd entry and of the even one, each with its weight.
-pub struct Seen {
-    pub a: u32,
-    pub wa: u32,
-    pub b: u32,
-    pub wb: u32,
-}
+use path_rules::Seen;
 
 // The costs of two neighbouring states, and which of its two ways each has come.
 pub struct Pair {

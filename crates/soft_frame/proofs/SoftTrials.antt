@@ -7,7 +7,7 @@ use Prim.Native.Nat.{ℕ, _+_}
 use native.Mathlib.Omega.{arith}
 use lib.Dec.{eqb, lit≤}
 use lib.ListN.{length, take, drop}
-use Rattle.path.specs.Path.{searchedBy}
+use Rattle.path_rules.specs.Path.{searchedBy}
 use Rattle.protected.specs.Convolution.{convolved, codedApart}
 use Rattle.protected.specs.Word.{coded}
 use Rattle.tail.specs.Repair.{Answer, repairOf}

@@ -14,8 +14,8 @@ use lib.Seq.{getD-take, length-take-le}
 use Rattle.bits.proofs.Sums.{sum-ext, sum-zero, zero-sum}
 use Rattle.bits.specs.Bit.{Bytes, digit, bitLo, sum, apart}
 use Rattle.bits.proofs.Belows.{below-append, below-take}
-use Rattle.path.specs.Path.{searched}
-use Rattle.path.proofs.Rows.{found-input}
+use Rattle.path_rules.specs.Path.{searched}
+use Rattle.path_rules.proofs.Walked.{found-input}
 use Rattle.tail.specs.Repair.{Answer, repairOf}
 use Rattle.tail.specs.Calls.{tailIn}
 use Rattle.trials.proofs.Tails.{repaired-bytes}

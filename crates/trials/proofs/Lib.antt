@@ -5,3 +5,4 @@ pub mod Pieces
 pub mod ExactDistance
 pub mod ComesBack
 pub mod Answers
+pub mod NearestTried

@@ -5,7 +5,7 @@ use mathlib.Core.List.{List, [], _∷_, _++_}
 use Prim.Native.Nat.{ℕ, _+_, _-_}
 use lib.Dec.{eqb}
 use lib.ListN.{take, drop}
-use Rattle.path.specs.Path.{searched}
+use Rattle.path_rules.specs.Path.{searched}
 use Rattle.protected.specs.Convolution.{convolved, inverted, codedApart}
 use Rattle.protected.specs.Word.{coded}
 use Rattle.tail.specs.Calls.{tailIn}

@@ -5,3 +5,4 @@ pub mod Hard
 pub mod Soft
 pub mod Calls
 pub mod Statements
+pub mod Nearest

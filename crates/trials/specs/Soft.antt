@@ -9,7 +9,7 @@ use lib.Dec.{ltb, eqb}
 use lib.ListN.{getD, length, set, drop}
 use Rattle.bits.specs.Bit.{tab}
 use Rattle.coding.specs.Scramble.{place}
-use Rattle.path.specs.Path.{searchedBy}
+use Rattle.path_rules.specs.Path.{searchedBy}
 use Rattle.protected.specs.Convolution.{convolved, codedApart}
 use Rattle.protected.specs.Word.{coded, codedPlace}
 use Rattle.tail.specs.Repair.{Answer, repairOf}

@@ -1,6 +1,7 @@
 // The voice frame's decoding as definitions: the encoder's word, the candidate check, each attempt of each stage as a trial, and what the
 // public calls of `voice_frame` answer. There is no code here but the types of those answers; the theorems stand at the end.
 use bits::Refusal;
+ghost use Rattle.trials.specs.Nearest.{NearestTried};
 ghost use Rattle.trials.specs.Statements.{RoundTrip, ExactDistance, Injective, Refusing, OneAnswer};
 
 // Document 01's stages: (a) to (d) are the hard ones.
@@ -52,6 +53,11 @@ pub fn exact_distance()
 // Two payloads that differ have encodings that differ.
 pub fn injective()
     ensures { λ _. ⌜ Injective ⌝ }
+{}
+
+// Document 02, A9: where a stage searches the path, the nearest bits are tried.
+pub fn nearest_tried()
+    ensures { λ _. ⌜ NearestTried ⌝ }
 {}
 
 // A refused call gives only the number.

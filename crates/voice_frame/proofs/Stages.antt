@@ -5,7 +5,7 @@ use mathlib.Core.List.{List, [], _∷_}
 use mathlib.Core.Path.{_≡_, refl, sym, ap, _∙_}
 use Prim.Native.Nat.{ℕ, _-_, _<_}
 use lib.ListN.{drop}
-use Rattle.path.specs.Path.{searched}
+use Rattle.path_rules.specs.Path.{searched}
 use Rattle.protected.specs.Convolution.{inverted}
 use Rattle.protected.specs.Word.{coded}
 use Rattle.tail.specs.Calls.{answerOf}

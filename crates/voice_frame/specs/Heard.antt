@@ -4,7 +4,7 @@ use mathlib.Core.Bool.{Bool, true, false, cond}
 use mathlib.Core.List.{List}
 use Prim.Native.Nat.{ℕ, _+_, _-_}
 use lib.ListN.{replicate}
-use Rattle.path.specs.Path.{searched}
+use Rattle.path_rules.specs.Path.{searched}
 use Rattle.protected.specs.Convolution.{convolved, inverted, codedApart}
 use Rattle.protected.specs.Word.{coded, payloadOf}
 use Rattle.trials.specs.declared.Stage.{Stage}

@@ -6,7 +6,7 @@ ghost use Prim.Native.Nat.{_-_};
 ghost use lib.ListN.{length, drop};
 ghost use Rattle.bits.specs.Bit.{Bytes};
 ghost use Rattle.field.specs.Field.{Powers, Logs};
-ghost use Rattle.path.specs.Path.{searched};
+ghost use Rattle.path_rules.specs.Path.{searched};
 ghost use Rattle.protected.specs.Convolution.{Input, inverted};
 ghost use Rattle.protected.specs.Table.{Admitted};
 ghost use Rattle.protected.specs.Word.{coded};

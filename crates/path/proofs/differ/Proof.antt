@@ -6,9 +6,9 @@ use lib.ListN.{getD}
 use Rattle.bits.proofs.Tabs.{tab-at}
 use Rattle.protected.specs.Convolution.{parityOf}
 use Rattle.protected.proofs.CodedBits.{parity-lt}
-use Rattle.path.specs.Path.{disagree, weigh}
+use Rattle.path_rules.specs.Path.{disagree, weigh}
 use Rattle.path.specs.Steps.{pairOf}
-use Rattle.path.proofs.Pairs.{disagree-le}
+use Rattle.path_rules.proofs.Places.{disagree-le}
 use borrow.Author.Needs.{needs}
 use Rattle.path.proofs.differ.Statement.{statement}
 use Rattle.path.proofs.differ.Tie as tie

@@ -5,7 +5,7 @@ use denote.Ref.{now}
 use Prim.Native.Nat.{ℕ, _*_, _<_}
 use native.Mathlib.Omega.{arith}
 use borrow.Author.Tests.{eq-eqb, ne-eqb}
-use Rattle.path.specs.Path.{seenAt}
+use Rattle.path_rules.specs.Path.{seenAt}
 use borrow.Author.Needs.{needs}
 use Rattle.path.proofs.observe.Statement.{statement}
 use Rattle.path.proofs.observe.Tie as tie

@@ -1,4 +1,4 @@
-use Rattle.path.specs.Path.{searched}
+use Rattle.path_rules.specs.Path.{searched}
 use Rattle.path.proofs.search.Statement.{statement}
 use Rattle.path.proofs.search.Tie as tie
 

@@ -4,13 +4,14 @@ use mathlib.Core.List.{List, []}
 use Prim.Native.Nat.{ℕ, _+_, _*_, _-_, _/_, _≤_, _<_}
 use native.Mathlib.Omega.{arith}
 use lib.ListN.{length, getD, length-set}
-use Rattle.path.specs.Path.{searchedBy, best, survivorAt, costOf, weigh, path}
+use Rattle.path_rules.specs.Path.{searchedBy, best, survivorAt, costOf, weigh, path}
 use Rattle.path.specs.Steps.{kept}
 use Rattle.bits.specs.Bit.{bitLo}
 use denote.Ref.{now}
-use Rattle.path.specs.declared.Seen.{Seen}
-use Rattle.path.proofs.Pairs.{weigh-le}
-use Rattle.path.proofs.Forwards.{start-at, start-le, survivor-small, arrive-le, arrive-cong, survivor-cong, best-more}
+use Rattle.path_rules.specs.declared.Seen.{Seen}
+use Rattle.path_rules.proofs.Places.{weigh-le}
+use Rattle.path_rules.proofs.Ways.{survivor-small}
+use Rattle.path.proofs.Forwards.{start-at, start-le, arrive-le, arrive-cong, survivor-cong, best-more}
 use Rattle.path.proofs.Rows.{walk-cong}
 use borrow.Author.Needs.{needs}
 use Rattle.path.proofs.search_by.Statement.{statement}

@@ -4,8 +4,9 @@ use Prim.Native.Nat.{ℕ, _+_, _*_, _-_, _≤_, _<_, min}
 use native.Mathlib.Omega.{arith}
 use lib.Dec.{ltb}
 use lib.ListN.{getD, length, length-set}
-use Rattle.path.specs.Path.{arrive, survivor, weigh}
-use Rattle.path.proofs.Pairs.{weigh-le, arrive-even, arrive-odd, survivor-even, survivor-odd}
+use Rattle.path_rules.specs.Path.{arrive, survivor, weigh}
+use Rattle.path_rules.proofs.Places.{weigh-le}
+use Rattle.path.proofs.Pairs.{arrive-even, arrive-odd, survivor-even, survivor-odd}
 use Rattle.path.proofs.Rows.{pair-more}
 use borrow.Author.Needs.{needs}
 use Rattle.path.proofs.step.Statement.{statement}

@@ -3,7 +3,7 @@ use mathlib.Core.List.{_++_, append-nil}
 use Prim.Native.Nat.{ℕ, _+_, _-_, _≤_, _<_}
 use native.Mathlib.Omega.{arith}
 use lib.ListN.{length, drop, length-set}
-use Rattle.path.specs.Path.{walk}
+use Rattle.path_rules.specs.Path.{walk}
 use Rattle.path.specs.Steps.{kept}
 use Rattle.path.proofs.Rows.{trace-more}
 use Rattle.path.proofs.trace.Statement.{statement}

@@ -4,8 +4,8 @@ use Prim.Native.Nat.{ℕ, _-_}
 use lib.ListN.{length}
 use Rattle.voice_frame.proofs.Tried.{then-first, then-second}
 use Rattle.soft_frame.proofs.SoftTrials.{all-told}
-use Rattle.path.specs.Path.{searchedBy}
-use Rattle.path.proofs.Rows.{found-input}
+use Rattle.path_rules.specs.Path.{searchedBy}
+use Rattle.path_rules.proofs.Walked.{found-input}
 use Rattle.protected.specs.Word.{coded}
 use Rattle.protected.proofs.WordBits.{coded-bits}
 use Rattle.trials.specs.Soft.{weightsOf, tailKeys, leastPlaces}

@@ -1,7 +1,7 @@
 use mathlib.Core.Path.{ap, _∙_}
 use Prim.Native.Nat.{_-_}
-use Rattle.path.specs.Path.{searched}
-use Rattle.path.proofs.Rows.{found-input}
+use Rattle.path_rules.specs.Path.{searched}
+use Rattle.path_rules.proofs.Walked.{found-input}
 use Rattle.protected.proofs.WordBits.{coded-bits}
 use Rattle.voice_frame.proofs.Tried.{then-first, then-second}
 use Rattle.voice_frame.specs.Heard.{saidJoint}

@@ -4,8 +4,8 @@ use mathlib.Core.List.{List, []}
 use mathlib.Core.Bool.{Bool, false}
 use lib.Dec.{eqb}
 use borrow.Author.Tests.{not-true, not-false}
-use Rattle.path.specs.Path.{searched}
-use Rattle.path.proofs.Rows.{found-input}
+use Rattle.path_rules.specs.Path.{searched}
+use Rattle.path_rules.proofs.Walked.{found-input}
 use Rattle.protected.specs.Convolution.{inverted}
 use Rattle.protected.specs.Word.{coded}
 use Rattle.protected.proofs.CodedBits.{inverted-input}

@@ -2,8 +2,8 @@ use mathlib.Core.Path.{sym, ap, _∙_}
 use Prim.Native.Nat.{ℕ, _-_}
 use mathlib.Core.List.{List}
 use borrow.Author.Tests.{not-true, not-false}
-use Rattle.path.specs.Path.{searched}
-use Rattle.path.proofs.Rows.{found-input}
+use Rattle.path_rules.specs.Path.{searched}
+use Rattle.path_rules.proofs.Walked.{found-input}
 use Rattle.protected.specs.Word.{coded}
 use Rattle.protected.proofs.WordBits.{coded-bits}
 use Rattle.trials.specs.declared.Stage.the-variants.{StageC}

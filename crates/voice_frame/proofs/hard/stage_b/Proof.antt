@@ -4,7 +4,7 @@ use native.Mathlib.Omega.{arith}
 use mathlib.Core.List.{List, [], _++_}
 use mathlib.Core.Bool.{Bool}
 use lib.ListN.{take, drop}
-use Rattle.path.specs.Path.{searched}
+use Rattle.path_rules.specs.Path.{searched}
 use Rattle.protected.specs.Convolution.{inverted}
 use Rattle.protected.specs.Word.{coded}
 use Rattle.trials.specs.Hard.{repairTrial}

@@ -3,13 +3,16 @@
 -- Assumes nothing.
 use mathlib.Core.Path.{_≡_}
 use Prim.Native.Nat.{ℕ, zero, suc, _-_, _<_, _≤_, min}
-use Rattle.path.specs.Path.{arrive, survivor, walk, path}
+use Rattle.path_rules.specs.Path.{arrive, survivor, walk, path}
 
 -- `viterbi`: unreached is 255, and so is every cost from 255 on
+abbrev pub ceiling : ℕ
+ceiling = 255
+
 unfoldable pub stopped : (ℕ → ℕ → ℕ) → ℕ → ℕ → ℕ
 stopped d zero zero = 0
-stopped d zero (suc s) = 255
-stopped d (suc t) s = min 255 (arrive (stopped d t) (d t) s)
+stopped d zero (suc s) = ceiling
+stopped d (suc t) s = min ceiling (arrive (stopped d t) (d t) s)
 
 -- `soft_viterbi`: unreached is u32::MAX / 4, and the floor f t is taken off after step t
 unfoldable pub lowered : (ℕ → ℕ → ℕ) → (ℕ → ℕ) → ℕ → ℕ → ℕ

@@ -3,13 +3,13 @@
 -- From state p the bit u leads through the register 2 p + u into the state (2 p + u) % 256. So the registers that end in state s are s, from
 -- the prior state s / 2, and s + 256, from the prior state s / 2 + 128.
 -- Assumes nothing.
-use mathlib.Core.Bool.{cond}
+use mathlib.Core.Bool.{Bool, cond}
 use mathlib.Core.List.{List, [], _∷_, _++_}
 use Prim.Native.Nat.{ℕ, zero, suc, _+_, _*_, _/_, _%_, min}
 use lib.Dec.{ltb, eqb}
 use lib.ListN.{getD, replicate}
 use Rattle.protected.specs.Convolution.{parityOf}
-use Rattle.path.specs.declared.Seen.{Seen}
+use Rattle.path_rules.specs.declared.Seen.{Seen}
 
 -- ---- one step, over the costs c of the states and e of the registers
 
@@ -17,9 +17,13 @@ use Rattle.path.specs.declared.Seen.{Seen}
 unfoldable pub arrive : (ℕ → ℕ) → (ℕ → ℕ) → ℕ → ℕ
 arrive c e s = min (c (s / 2) + e s) (c (s / 2 + 128) + e (s + 256))
 
--- 1 where the way from the prior state of 128 or more is the cheaper one; at equal cost the prior state below 128 wins
+-- whether that is the way from the prior state of 128 or more; at equal cost the prior state below 128 wins
+abbrev pub higher : (ℕ → ℕ) → (ℕ → ℕ) → ℕ → Bool
+higher c e s = ltb (c (s / 2 + 128) + e (s + 256)) (c (s / 2) + e s)
+
+-- the same as the bit that a row keeps
 unfoldable pub survivor : (ℕ → ℕ) → (ℕ → ℕ) → ℕ → ℕ
-survivor c e s = cond (ltb (c (s / 2 + 128) + e (s + 256)) (c (s / 2) + e s)) 1 0
+survivor c e s = cond (higher c e s) 1 0
 
 -- ---- the search, over the cost d t r of the register r at step t
 

@@ -4,45 +4,12 @@ use mathlib.Core.Bool.{Bool, true, false, cond}
 use mathlib.Core.Path.{_≡_, _∙_, refl, sym, ap, ap₂}
 use mathlib.Core.List.{List, [], _∷_, _++_}
 use Prim.Native.Nat.{ℕ, zero, suc, _+_, _-_, _*_, _/_, _%_, _<_, _≤_, min}
-use native.Mathlib.Nat.{mul-suc}
 use native.Mathlib.Omega.{arith}
-use borrow.Author.Tests.{ltb-true, ltb-false, lt-ltb, le-ltb}
-use lib.Dec.{ltb}
-use Rattle.path.specs.Path.{arrive, survivor, far, start, best, survivorAt, walk, path}
-use Rattle.path.specs.Statements.{stopped, lowered, SamePaths}
-use Rattle.path.proofs.Forwards.{survivor-small}
-
--- ---- the state before, and what it costs
-
-module _ (d : ℕ → ℕ → ℕ) where
-  -- the state that the search takes before s
-  prior : ℕ → ℕ → ℕ
-  prior t s = s / 2 + 128 * survivorAt d t s
-
-  prior-small : (t s : ℕ) → s < 256 → prior t s < 256
-  unfolding prior
-  prior-small t s h = omega (arith, survivor-small (best d t) (d t) s)
-
-  prior-cost : (t s : ℕ) → s < 256 → best d (suc t) s ≡ best d t (prior t s) + d t (2 * prior t s + s % 2)
-  unfolding prior best arrive survivor
-  prior-cost t s h = go (ltb (best d t (s / 2 + 128) + d t (s + 256)) (best d t (s / 2) + d t s)) refl
-    where
-      go : (b : Bool) → ltb (best d t (s / 2 + 128) + d t (s + 256)) (best d t (s / 2) + d t s) ≡ b
-          → min (best d t (s / 2) + d t s) (best d t (s / 2 + 128) + d t (s + 256))
-          ≡ best d t (s / 2 + 128 * cond b 1 0) + d t (2 * (s / 2 + 128 * cond b 1 0) + s % 2)
-      go true e =
-          let a : 2 * (s / 2 + 128) + s % 2 ≡ s + 256 = omega arith in
-          omega (arith, ltb-true (best d t (s / 2 + 128) + d t (s + 256)) (best d t (s / 2) + d t s) e, ap (d t) a)
-      go false e =
-          let a : 2 * (s / 2 + 0) + s % 2 ≡ s = omega arith in
-          let b : s / 2 + 0 ≡ s / 2 = omega arith in
-          omega (arith, ltb-false (best d t (s / 2 + 128) + d t (s + 256)) (best d t (s / 2) + d t s) e, ap (d t) a, ap (best d t) b)
-
-  -- the path that stays in state 0 costs at most w a step
-  best-le : (w : ℕ) → ((t r : ℕ) → d t r ≤ w) → (t : ℕ) → best d t 0 ≤ w * t
-  unfolding best start arrive
-  best-le w small zero = omega arith
-  best-le w small (suc t) = rw mul-suc (omega (arith, best-le w small t, small t 0))
+use borrow.Author.Tests.{ltb-true, ltb-false}
+use Rattle.bits.proofs.Conds.{cond-lt, cond-ge}
+use Rattle.path_rules.specs.Path.{arrive, higher, survivor, far, start, best, survivorAt, walk, path}
+use Rattle.path_rules.specs.Statements.{ceiling, stopped, lowered, SamePaths}
+use Rattle.path_rules.proofs.Ways.{before, before-small, before-cost, best-le}
 
 -- ---- agreement: b is what has been taken off so far
 
@@ -73,21 +40,12 @@ module _ (m b : ℕ) (c i e : ℕ → ℕ) (h : Agree m b c i) (s : ℕ) (hs : s
   -- where the best cost is below m, the same way is chosen
   survivor-agrees : arrive i e s < m → survivor c e s ≡ survivor i e s
   unfolding arrive survivor
-  survivor-agrees k =
-      go (ltb (i (s / 2 + 128) + e (s + 256)) (i (s / 2) + e s)) refl
+  survivor-agrees k = go (higher i e s) refl (h (s / 2) (omega arith)) (h (s / 2 + 128) (omega arith))
     where
-      go : (t : Bool) → ltb (i (s / 2 + 128) + e (s + 256)) (i (s / 2) + e s) ≡ t
-          → cond (ltb (c (s / 2 + 128) + e (s + 256)) (c (s / 2) + e s)) 1 0 ≡ cond {A = ℕ} t 1 0
-      go true q =
-          let w = ltb-true (i (s / 2 + 128) + e (s + 256)) (i (s / 2) + e s) q in
-          let l = h (s / 2) (omega arith) in
-          let r = h (s / 2 + 128) (omega arith) in
-          ap (λ (b : Bool). cond {A = ℕ} b 1 0) (lt-ltb (c (s / 2 + 128) + e (s + 256)) (c (s / 2) + e s) (omega arith))
-      go false q =
-          let w = ltb-false (i (s / 2 + 128) + e (s + 256)) (i (s / 2) + e s) q in
-          let l = h (s / 2) (omega arith) in
-          let r = h (s / 2 + 128) (omega arith) in
-          ap (λ (b : Bool). cond {A = ℕ} b 1 0) (le-ltb (c (s / 2 + 128) + e (s + 256)) (c (s / 2) + e s) (omega arith))
+      go : (t : Bool) → higher i e s ≡ t → min m (c (s / 2) + b) ≡ min m (i (s / 2)) → min m (c (s / 2 + 128) + b) ≡ min m (i (s / 2 + 128))
+          → cond (higher c e s) 1 0 ≡ cond {A = ℕ} t 1 0
+      go true q l r = cond-lt (c (s / 2 + 128) + e (s + 256)) (c (s / 2) + e s) 1 0 (omega (arith, ltb-true))
+      go false q l r = cond-ge (c (s / 2 + 128) + e (s + 256)) (c (s / 2) + e s) 1 0 (omega (arith, ltb-false))
 
 -- the hard search: costs that stop at m, which is 255
 saturated : (m : ℕ) (c i : ℕ → ℕ) → Agree m 0 c i → Agree m 0 (λ (s : ℕ). min m (c s)) i
@@ -100,12 +58,12 @@ floored m b u f c i hu hf h s hs = omega (arith, h s hs, hf s hs)
 -- choices that agree wherever the best cost is below m find the same path, from a state whose best cost is below m
 walk-agrees : (d h : ℕ → ℕ → ℕ) (m n : ℕ) → ((k : ℕ) → k < n → (s : ℕ) → s < 256 → best d (suc k) s < m → h k s ≡ survivorAt d k s)
     → (s : ℕ) → s < 256 → best d n s < m → walk h n s ≡ path d n s
-unfolding walk path prior
+unfolding walk path before best
 walk-agrees d h m zero e s hs b = refl
 walk-agrees d h m (suc n) e s hs b =
     rw (e n (omega arith) s hs b)
     (ap (λ (l : List ℕ). l ++ (s % 2 ∷ []))
-    (walk-agrees d h m n (λ k hk. e k (omega arith)) (s / 2 + 128 * survivorAt d n s) (prior-small d n s hs) (omega (arith, prior-cost d n s hs))))
+    (walk-agrees d h m n (λ k hk. e k (omega arith)) (s / 2 + 128 * survivorAt d n s) (before-small (best d n) (d n) s hs) (omega (arith, before-cost (best d n) (d n) s))))
 
 -- ---- the two searches of the source, as they count
 
@@ -126,7 +84,7 @@ module _ (d : ℕ → ℕ → ℕ) where
         (omega arith)
         h
 
-  stopped-first : Agree 255 0 (stopped d 0) (best d 0)
+  stopped-first : Agree ceiling 0 (stopped d 0) (best d 0)
   unfolding stopped best start
   stopped-first zero h = refl
   stopped-first (suc s) h = refl
@@ -134,7 +92,7 @@ module _ (d : ℕ → ℕ → ℕ) where
   hard-finds : ((t r : ℕ) → d t r ≤ 2) → walk (λ (t s : ℕ). survivor (stopped d t) (d t) s) 94 0 ≡ path d 94 0
   unfolding stopped
   hard-finds small =
-      same-path 255 (λ (t : ℕ). 0) (stopped d) stopped-first (λ t h. saturated 255 (arrive (stopped d t) (d t)) (best d (suc t)) h) 94
+      same-path ceiling (λ (t : ℕ). 0) (stopped d) stopped-first (λ t h. saturated ceiling (arrive (stopped d t) (d t)) (best d (suc t)) h) 94
       (omega (arith, best-le d 2 small 94))
 
   module _ (f : ℕ → ℕ) where
