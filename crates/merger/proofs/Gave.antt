@@ -217,7 +217,7 @@ module _ (m : Merger) (g : Valid m) where
     first [] (suc n) h k = absurd (not-suc-le-zero k)
     first (p ∷ ps) (suc n) h k = refl
 
-    split : 0 < m .n → take (m .n) (m .positions) ≡ getD (m .positions) 0 noPosition ∷ drop 1 (take (m .n) (m .positions))
+    pub split : 0 < m .n → take (m .n) (m .positions) ≡ getD (m .positions) 0 noPosition ∷ drop 1 (take (m .n) (m .positions))
     split h = let w : m .n ≤ 16 = g .within in let l : length (m .positions) ≡ 16 = g .long in first (m .positions) (m .n) h (omega arith)
 
     pub release-not : (t : Bool) → 0 < m .n → t ≡ false → t ≡ isReady s₀ s₁ flush (getD (m .positions) 0 noPosition)

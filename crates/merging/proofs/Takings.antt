@@ -26,8 +26,7 @@ use Rattle.merger_rules.specs.declared.Position.{Position}
 use Rattle.merger_rules.specs.declared.Pushed.{Pushed}
 use Rattle.merger_rules.specs.declared.Pushed.the-variants.{Kept, Double, Late, Refused}
 use Rattle.bits.specs.declared.Refusal.{Refusal}
-use Rattle.sync.specs.View.{view}
-use Rattle.sync.specs.declared.Synchroniser.{Synchroniser}
+use Rattle.sync_steps.specs.declared.numbers.Numbers.{Numbers}
 use Rattle.merging.specs.Recordings.{Sound}
 use Rattle.merger_rules.specs.declared.Release.{Release}
 use Rattle.merger_rules.specs.declared.Released.{Released}
@@ -56,7 +55,7 @@ unfolding keptOf freedIn
 release-gives x s₀ s₁ flush v = let all = balanced x (release s₀ s₁ flush ∷ []) v in omega arith
 
 -- how many positions an answer takes out
-abbrev takenBy : Released → ℕ
+abbrev pub takenBy : Released → ℕ
 takenBy (Frame r) = 1
 takenBy PassedOver = 1
 takenBy NothingReady = 0
@@ -74,11 +73,11 @@ unfolding Fell
 release-fell s₀ s₁ flush [] last = omega arith
 release-fell s₀ s₁ flush (p ∷ ps) last = cond-both (Fell (p ∷ ps)) (isReady s₀ s₁ flush p) _ _ (settle-fell (choiceOf p) (freedOf p) p ps last) (omega arith)
 
-settle-takes : (c : Choice) (f : Freed) (ps : List Position) (last : Clock) → takenBy (settle c f ps last .answer) ≡ 1
+pub settle-takes : (c : Choice) (f : Freed) (ps : List Position) (last : Clock) → takenBy (settle c f ps last .answer) ≡ 1
 settle-takes Neither f ps last = refl
 settle-takes (Chosen h b) f ps last = cond-both (λ (y : ReleaseStep). takenBy (y .answer) ≡ 1) (isAfter last (snapped last (h .figures .offset))) _ _ refl refl
 
-flush-takes : (s₀ s₁ : Clock) (l : List Position) (last : Clock) → takenBy (releaseFrom s₀ s₁ true l last .answer) ≡ 0 → length l ≡ 0
+pub flush-takes : (s₀ s₁ : Clock) (l : List Position) (last : Clock) → takenBy (releaseFrom s₀ s₁ true l last .answer) ≡ 0 → length l ≡ 0
 flush-takes s₀ s₁ [] last e = refl
 flush-takes s₀ s₁ (p ∷ ps) last e = absurd (omega (arith, settle-takes (choiceOf p) (freedOf p) ps last))
 
@@ -131,13 +130,6 @@ module _ (w : Work) (s₀ s₁ : Clock) (flush : Bool) (r : AfterRelease) (g : R
 
     pub fell-passed : r .answer ≡ PassedOver → r .merger .n + 1 ≡ w .merger .n
     fell-passed e = let one : takenBy (r .answer) ≡ 1 = ap takenBy e in omega (arith, fell)
-
-    pub none-left : flush ≡ true → r .answer ≡ NothingReady → w .merger .n ≡ 0
-    none-left t e =
-        let before : length (viewOf (w .merger) .pending) ≡ w .merger .n = len (w .merger) valid in
-        let none : takenBy (releaseOf s₀ s₁ true (viewOf (w .merger)) .answer) ≡ 0
-        = ap (λ (b : Bool). takenBy (releaseOf s₀ s₁ b (viewOf (w .merger)) .answer)) (sym t) ∙ ap takenBy (sym (g .answers) ∙ e) in
-        omega (arith, flush-takes s₀ s₁ (viewOf (w .merger) .pending) (w .merger .last) none)
 
 -- the shelf's slots after a release
 pub record Emptied (w : Work) (m : Merger) (f : Freed) (taken : List Bool) : Type 0 where
@@ -203,5 +195,5 @@ module _ (w : Work) (a : Accounted w) (s : ℕ) (h : Held) (r : AfterPush) (g : 
   still-refused f e x = still x (Refused f) e refl
 
 -- a synchroniser's frames are few
-pub frames-few : (s : Synchroniser) → Sound s → view s .frames ≤ 2 ^ 42
-frames-few s h = omega (arith, h .valid .steady .sound .grid, h .valid .steady .sound .tide, h .valid .steady .sound .taken-few)
+pub frames-few : {bits reliabilities : List ℕ} {k : Numbers} → Sound bits reliabilities k → k .frames ≤ 2 ^ 42
+frames-few h = omega (arith, h .steady .sound .grid, h .steady .sound .tide, h .steady .sound .taken-few)

@@ -8,6 +8,9 @@ use lib.ListN.{length, getD, set}
 use Rattle.bits.specs.Bit.{sum}
 use Rattle.merger_rules.specs.Counts.{pendingOf, inFreed}
 use Rattle.merger.specs.States.{viewOf, Valid}
+use Rattle.merger_rules.specs.Merging.{releaseOf}
+use Rattle.merger_rules.specs.declared.Clock.{Clock}
+use Rattle.merger_rules.specs.declared.Released.the-variants.{NothingReady}
 use Rattle.merger_rules.specs.declared.Free.{Free}
 use Rattle.merger_rules.specs.declared.Free.the-variants.{Nothing, Number}
 use Rattle.merger_rules.specs.declared.Freed.{Freed}
@@ -60,6 +63,10 @@ pub record Accounted (w : Work) : Type 0 where
   pub shelved : (x : ℕ) → bitAt (w .shelf .taken) x ≡ waiting (w .merger) x
   -- each frame taken in is in the journal, gave way to the other stream's frame of its position, was passed over, or waits
   pub balance : w .kept ≡ w .released + w .others + w .passed + used (w .shelf .taken)
+
+-- where the streams are settled so far, nothing that waits is ready
+abbrev pub Idle : Clock → Clock → Bool → Work → Type 0
+Idle primary alternate flush w = releaseOf primary alternate flush (viewOf (w .merger)) .answer ≡ NothingReady
 
 -- a release took the freed numbers out of the merger
 pub record TookOut (w : Work) (m : Merger) (f : Freed) : Type 0 where

@@ -1,5 +1,6 @@
 // Two packed recordings of the same time, merged: dibit by dibit the primary's is pushed, then the alternate's; every frame goes into the merger with the hard
 // decoder's yes or no; then all that is ready is released with both settled offsets. A recording that has ended is absent; when both have ended, the rest is flushed.
+// Where no dibit can search, send or be refused in either stream, a stretch of them is fed at once: dibit by dibit nothing else would come of it.
 //
 // shelves.rt keeps the envelopes of the frames that wait, offering.rt hands frames to the merger, releasing.rt writes what it releases, recordings.rt reads the two files.
 mod offering;

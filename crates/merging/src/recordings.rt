@@ -1,9 +1,12 @@
-// The two recordings, piece by piece and dibit by dibit.
+// The two recordings, piece by piece: dibit by dibit, and where nothing can happen a stretch at once.
 ghost use mathlib.Core.Path.{_≡_};
-ghost use Prim.Native.Nat.{_+_, _^_, _≤_, _<_};
-ghost use lib.ListN.{length};
-ghost use Rattle.merging.specs.Accounts.{Accounted, toldOf};
-ghost use Rattle.merging.specs.Recordings.{Sound, Took, Paired, Ready, AddsUp};
+ghost use mathlib.Core.Bool.{true, false};
+ghost use Prim.Native.Nat.{_+_, _-_, _*_, _^_, _≤_, _<_, max};
+ghost use lib.ListN.{length, take, drop};
+ghost use Rattle.merger.specs.States.{Valid};
+ghost use Rattle.sync_steps.specs.View.{viewOf};
+ghost use Rattle.merging.specs.Accounts.{Accounted, toldOf, Idle};
+ghost use Rattle.merging.specs.Recordings.{Sound, dibitsOf, Took, NothingToDo, heldIn, Ready, standing, Walk, AddsUp};
 use crate::Work;
 use crate::offering::offer_all;
 use crate::releasing::release_all;
@@ -11,9 +14,15 @@ use crate::shelves::empty;
 use journal::Earlier;
 use merger::Clock;
 use merger::Merger;
+use merger_steps::ready;
+use stretches::settled_after;
+use stretches::stretch;
 use sync::Push;
 use sync::Synchroniser;
 use sync_rules::Head;
+use sync_steps::Numbers;
+use sync_steps::Source;
+use sync_steps::feed_into;
 
 // The synchronisers of the primary and of the alternate, and what is made of their frames.
 pub struct Recordings {
@@ -37,195 +46,181 @@ pub struct Merged {
     pub passed: u64,
 }
 
-// What a dibit brought: how far the stream is settled, and the frames that went out.
-pub struct News {
+// What a dibit, or a calm stretch, of a stream brought: how far it is settled, the numbers of its synchroniser and the frames that went out.
+pub struct Taken {
     pub settled: Clock,
+    pub numbers: Numbers,
     pub count: usize,
     pub heads: [Head; 3],
 }
 
-pub struct Taken {
-    pub sync: Synchroniser,
-    pub news: News,
-}
-
-// The same of both streams.
-struct Both {
-    first: Synchroniser,
-    second: Synchroniser,
-    primary: News,
-    alternate: News,
-}
-
-// Dibit k of a byte, the highest first.
-fn dibit_of(byte: u8, k: usize) -> u8 {
-    if k == 0 {
-        return byte / 64;
-    }
-    if k == 1 {
-        return byte / 16 % 4;
-    }
-    if k == 2 {
-        return byte / 4 % 4;
-    }
-    byte % 4
-}
-
-// How far a stream is settled after a push; a recording whose push was refused has ended.
-fn settled_at(answer: Push, offset: u64) -> Clock {
+// A refused push is said by the refusal's number.
+fn say_refused(answer: Push) {
     match answer {
-        Push::Taken => Clock::At(offset),
+        Push::Taken => {}
         Push::Refused(refusal) => {
             lines::print_error(lines::refusal_line(refusal));
-            Clock::Absent
         }
     }
 }
 
-// A recording that has no dibit i in this piece has ended, and is absent.
-fn absent(s: Synchroniser) -> Taken
-    requires { ⌜ Sound s ⌝ }
-    ensures { λ r. ⌜ Took s (r .sync) (r .news .count) ⌝ }
-{
-    let none = Head {
-        offset: 0,
-        matched: false,
-        errors: 0,
-    };
-    let news = News {
-        settled: Clock::Absent,
-        count: 0,
-        heads: [none; 3],
-    };
-    Taken { sync: s, news }
-}
-
-// Dibit i of a piece.
-fn take(s: Synchroniser, piece: &[u8], i: usize, room: &mut [u8; 1296]) -> Taken
-    requires { ⌜ Sound s ⌝ }
-    ensures { λ r. ⌜ Took s (r .sync) (r .news .count) ⌝ }
-{
-    let at = i / 4;
-    if piece.len() <= at {
-        return absent(s);
-    }
-    let pushed = s.push(dibit_of(piece[at], i % 4), room);
-    let heads = pushed.heads;
-    let sync = pushed.next;
-    let answer = pushed.answer;
-    let news = News {
-        settled: settled_at(answer, sync.settled()),
-        count: pushed.count,
-        heads,
-    };
-    Taken { sync, news }
-}
-
-// Dibit i of both recordings, the primary's first.
-fn take_both(
-    first: Synchroniser,
-    second: Synchroniser,
-    primary: &[u8],
-    alternate: &[u8],
+// The n dibits of a piece from dibit i on, into rings lent in place. A recording that has none, or whose push is refused, has ended.
+fn take(
+    bits: &mut [u8; 1155],
+    reliabilities: &mut [u8; 1155],
+    k: Numbers,
+    piece: &[u8],
     i: usize,
-    one: &mut [u8; 1296],
-    two: &mut [u8; 1296],
-) -> Both
-    requires { ⌜ Sound first ⌝ ∗ ⌜ Sound second ⌝ }
-    ensures one { λ r. ⌜ Took first (r .first) (r .primary .count) ⌝ }
-    ensures other { λ r. ⌜ Took second (r .second) (r .alternate .count) ⌝ }
+    n: usize,
+    room: &mut [u8; 1296],
+) -> Taken
+    requires { ⌜ Sound (now bits) (now reliabilities) k ⌝ }
+    ensures { λ r. ⌜ Took (take n (drop i (dibitsOf (now (piece .entry))))) (viewOf (now (bits .entry)) (now (reliabilities .entry)) k) (now (bits .exit)) (now (reliabilities .exit)) r ⌝ }
 {
-    let a = take(first, primary, i, one);
-    let b = take(second, alternate, i, two);
-    let p = a.sync;
-    let q = b.sync;
-    let news = a.news;
-    let others = b.news;
-    Both {
-        first: p,
-        second: q,
-        primary: news,
-        alternate: others,
+    let d = feed_into(
+        bits,
+        reliabilities,
+        k,
+        Source::Stretch(n),
+        piece,
+        piece,
+        i,
+        room,
+    );
+    let answer = d.answer;
+    say_refused(answer);
+    let settled = settled_after(d);
+    let drained = d.drained;
+    let numbers = drained.numbers;
+    let heads = drained.heads;
+    Taken {
+        settled,
+        numbers,
+        count: drained.count,
+        heads,
     }
+}
+
+// How many of `all` dibits are left from dibit i on.
+fn left_of(all: usize, i: usize) -> usize
+    ensures { λ r. ⌜ r ≡ all - i ⌝ }
+{
+    if all < i {
+        return 0;
+    }
+    all - i
+}
+
+// Whether a frame has come, or what waits first is ready. The work is handed on only then: it is 3 KB, and is copied at every call that changes it.
+fn stirs(w: Work, primary: Taken, alternate: Taken) -> bool
+    requires { ⌜ Valid (w .merger) ⌝ }
+    ensures calm { λ r. ⌜ (r ≡ false → NothingToDo primary alternate w) ⌝ }
+    ensures busy { λ r. ⌜ (r ≡ true → NothingToDo primary alternate w → ⊥) ⌝ }
+{
+    if primary.count != 0 {
+        return true;
+    }
+    if alternate.count != 0 {
+        return true;
+    }
+    let m = w.merger;
+    if m.n == 0 {
+        return false;
+    }
+    let positions = m.positions;
+    let p = positions[0];
+    let settled = primary.settled;
+    let other = alternate.settled;
+    ready(p, settled, other, false)
 }
 
 // The frames of one push, if it has any.
-fn offered(w: Work, table: &[u8], stream: usize, news: News, room: &[u8; 1296]) -> Work
-    requires { ⌜ Accounted w ⌝ ∗ ⌜ toldOf w + 3 < 2 ^ 44 ⌝ ∗ ⌜ news .count ≤ 3 ⌝ }
+fn offered(w: Work, table: &[u8], stream: usize, t: Taken, room: &[u8; 1296]) -> Work
+    requires { ⌜ Accounted w ⌝ ∗ ⌜ toldOf w + 3 < 2 ^ 44 ⌝ ∗ ⌜ t .count ≤ 3 ⌝ }
     ensures accounted { λ r. ⌜ Accounted r ⌝ }
-    ensures told { λ r. ⌜ toldOf r ≡ toldOf w + news .count ⌝ }
+    ensures told { λ r. ⌜ toldOf r ≡ toldOf w + t .count ⌝ }
 {
-    if news.count == 0 {
+    if t.count == 0 {
         return w;
     }
-    let heads = news.heads;
-    offer_all(w, table, stream, heads, news.count, room)
-}
-
-// What is ready, if anything waits.
-fn released(w: Work, primary: Clock, alternate: Clock) -> Work
-    requires { ⌜ Accounted w ⌝ ∗ ⌜ toldOf w < 2 ^ 44 ⌝ }
-    ensures accounted { λ r. ⌜ Accounted r ⌝ }
-    ensures told { λ r. ⌜ toldOf r ≡ toldOf w ⌝ }
-{
-    let m = w.merger;
-    if m.n == 0 {
-        return w;
-    }
-    release_all(w, primary, alternate, false)
+    let heads = t.heads;
+    offer_all(w, table, stream, heads, t.count, room)
 }
 
 // What both pushes brought: every frame goes into the merger, then all that is ready is released.
 fn made_of(
     w: Work,
     table: &[u8],
-    primary: News,
-    alternate: News,
+    primary: Taken,
+    alternate: Taken,
     one: &[u8; 1296],
     two: &[u8; 1296],
 ) -> Work
     requires { ⌜ Accounted w ⌝ ∗ ⌜ toldOf w + 6 < 2 ^ 44 ⌝ ∗ ⌜ primary .count ≤ 3 ⌝ ∗ ⌜ alternate .count ≤ 3 ⌝ }
     ensures accounted { λ r. ⌜ Accounted r ⌝ }
     ensures told { λ r. ⌜ toldOf r ≡ toldOf w + (primary .count + alternate .count) ⌝ }
+    ensures idle { λ r. ⌜ Idle (primary .settled) (alternate .settled) false r ⌝ }
 {
     let v = offered(w, table, 0, primary, one);
     let work = offered(v, table, 1, alternate, two);
     let settled = primary.settled;
     let other = alternate.settled;
-    released(work, settled, other)
+    release_all(work, settled, other, false)
 }
 
 fn longer(a: usize, b: usize) -> usize
-    requires { ⌜ a ≤ 16384 ⌝ ∗ ⌜ b ≤ 16384 ⌝ }
-    ensures { λ r. ⌜ r ≤ 16384 ⌝ }
+    ensures { λ r. ⌜ r ≡ max a b ⌝ }
 {
     if a < b { b } else { a }
 }
 
-// The dibits of two pieces that begin at the same time.
+fn held_in(bits: [u8; 1155], reliabilities: [u8; 1155], numbers: Numbers) -> Synchroniser
+    ensures { λ r. ⌜ r ≡ heldIn bits reliabilities numbers ⌝ }
+{
+    Synchroniser {
+        bits,
+        reliabilities,
+        numbers,
+    }
+}
+
+// The dibits of two pieces that begin at the same time. Where neither stream searches or sends, nothing becomes ready: such a stretch is fed at once.
 fn merge_pieces(r: Recordings, table: &[u8], primary: &[u8], alternate: &[u8]) -> Recordings
     requires { ⌜ Ready r ⌝ ∗ ⌜ length (now primary) ≤ 4096 ⌝ ∗ ⌜ length (now alternate) ≤ 4096 ⌝ }
     ensures { λ s. ⌜ Ready s ⌝ }
+    ensures walked { λ s. ⌜ Walk (max (4 * length (now (primary .entry))) (4 * length (now (alternate .entry)))) (dibitsOf (now (primary .entry))) (dibitsOf (now (alternate .entry))) (standing r) (standing s) ⌝ }
 {
-    let mut first = r.first;
-    let mut second = r.second;
+    // of the primary's synchroniser bits, rels and numbers, of the alternate's others, their and figures
+    let first = r.first;
+    let second = r.second;
+    let mut bits = first.bits;
+    let mut rels = first.reliabilities;
+    let mut numbers = first.numbers;
+    let mut others = second.bits;
+    let mut their = second.reliabilities;
+    let mut figures = second.numbers;
     let mut work = r.work;
     let mut one = [0u8; 1296];
     let mut two = [0u8; 1296];
     let all = longer(4 * primary.len(), 4 * alternate.len());
     let mut i = 0;
     while i < all {
-        let both = take_both(first, second, primary, alternate, i, &mut one, &mut two);
-        first = both.first;
-        second = both.second;
-        let news = both.primary;
-        let others = both.alternate;
-        work = made_of(work, table, news, others, &one, &two);
-        i += 1;
+        let p = left_of(4 * primary.len(), i);
+        let q = left_of(4 * alternate.len(), i);
+        let n = stretch(numbers, figures, p, q);
+        let a = take(&mut bits, &mut rels, numbers, primary, i, n, &mut one);
+        let b = take(&mut others, &mut their, figures, alternate, i, n, &mut two);
+        numbers = a.numbers;
+        figures = b.numbers;
+        i += n;
+        let busy = stirs(work, a, b);
+        if busy {
+            work = made_of(work, table, a, b, &one, &two);
+        }
     }
     Recordings {
-        first,
-        second,
+        first: held_in(bits, rels, numbers),
+        second: held_in(others, their, figures),
         work,
         ended: all == 0,
     }

@@ -2,7 +2,7 @@
 ghost use mathlib.Core.Path.{_≡_};
 ghost use mathlib.Core.Bool.{true, false};
 ghost use Prim.Native.Nat.{_+_, _^_, _≤_, _<_};
-ghost use Rattle.merging.specs.Accounts.{Small, Accounted, TookOut, toldOf, countFreed};
+ghost use Rattle.merging.specs.Accounts.{Small, Accounted, TookOut, Idle, toldOf, countFreed};
 use crate::Work;
 use crate::shelves::Shelf;
 use crate::shelves::how_many;
@@ -128,7 +128,7 @@ pub(crate) fn release_first(w: Work, primary: Clock, alternate: Clock, flush: bo
     ensures accounted { λ r. ⌜ Accounted (r .work) ⌝ }
     ensures told { λ r. ⌜ toldOf (r .work) ≡ toldOf w ⌝ }
     ensures fewer { λ r. ⌜ (r .more ≡ true → r .work .merger .n + 1 ≡ w .merger .n) ⌝ }
-    ensures none { λ r. ⌜ (flush ≡ true → r .more ≡ false → r .work .merger .n ≡ 0) ⌝ }
+    ensures idle { λ r. ⌜ (r .more ≡ false → Idle primary alternate flush (r .work)) ⌝ }
 {
     let m = w.merger;
     let shelf = w.shelf;
@@ -155,12 +155,12 @@ pub(crate) fn release_first(w: Work, primary: Clock, alternate: Clock, flush: bo
     }
 }
 
-// All positions that are ready: at most 16 wait. At a flush none is left.
+// All positions that are ready: at most 16 wait.
 pub(crate) fn release_all(w: Work, primary: Clock, alternate: Clock, flush: bool) -> Work
     requires { ⌜ Accounted w ⌝ ∗ ⌜ toldOf w < 2 ^ 44 ⌝ }
     ensures accounted { λ r. ⌜ Accounted r ⌝ }
     ensures told { λ r. ⌜ toldOf r ≡ toldOf w ⌝ }
-    ensures none { λ r. ⌜ (flush ≡ true → r .merger .n ≡ 0) ⌝ }
+    ensures idle { λ r. ⌜ Idle primary alternate flush r ⌝ }
 {
     let mut work = w;
     let mut k: usize = 0;

@@ -3,3 +3,4 @@ pub mod Feeding
 pub mod Signed
 pub mod Slots
 pub mod Histories
+pub mod Ends

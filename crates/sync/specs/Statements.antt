@@ -1,17 +1,17 @@
 -- What holds of the calls: they follow the rules, and demand 3 holds of what they hand out.
 -- Assumes nothing.
 use mathlib.Core.Path.{_≡_}
-use mathlib.Core.List.{List, []}
-use mathlib.Core.List.{_++_}
+use mathlib.Core.List.{List, [], _++_}
 use mathlib.Core.Bool.{true, false}
-use Prim.Native.Nat.{ℕ, _+_, _*_, _≤_, _<_}
+use Prim.Native.Nat.{ℕ, _+_, _*_, _≤_, _<_, _^_}
+use lib.IntN.{pos, _+ℤ_}
 use lib.ListN.{length, take}
 use Rattle.sync.specs.declared.Synchroniser.{Synchroniser}
 use Rattle.sync.specs.View.{Valid, view}
 use Rattle.sync.specs.Calls.{Call, History, stateOf, accepted, handed, shownAs, streamOf, placeIn, BeginsAt, firstGot, gotInARow}
 use Rattle.sync_rules.specs.Matching.{locksAt, inPlace}
-use Rattle.sync_rules.specs.State.{Input, start}
-use Rattle.sync_rules.specs.Pushes.{run}
+use Rattle.sync_rules.specs.State.{Input, start, netSlip, streamEnd}
+use Rattle.sync_rules.specs.Pushes.{run, quiet}
 use Rattle.sync_rules.specs.Demand.{stream, FirstLock}
 
 -- any history of calls has the state and the frames of `run` over the pushes that were made, so that every statement of the rules is one of the calls
@@ -38,3 +38,22 @@ pub record DemandCalls (s : Synchroniser) (before after : List Call) : Type 0 wh
 -- s is what `new` hands out
 abbrev pub demandCalls : Type 0
 demandCalls = (s : Synchroniser) → Valid s → view s ≡ start → (before after : List Call) → History s (before ++ after) → BeginsAt before → DemandCalls s before after
+
+-- the end of the stream, as `stream_end` gives it after the calls cs
+pub record EndOf (s : Synchroniser) (cs : List Call) : Type 0 where
+  -- with the signed net slip it is the number of bits pushed
+  pub bits : pos (length (streamOf cs)) ≡ pos (streamEnd (view (stateOf s cs))) +ℤ netSlip (view (stateOf s cs))
+  pub low : streamEnd (view (stateOf s cs)) ≤ 2 ^ 42
+
+-- s is what `new` hands out
+abbrev pub endCalls : Type 0
+endCalls = (s : Synchroniser) → Valid s → view s ≡ start → (cs : List Call) → History s cs → EndOf s cs
+
+-- calls that make no more pushes than `quiet_dibits` says hand out no frame, and the settled offset and the lock stay
+pub record QuietCalls (s : Synchroniser) (cs : List Call) : Type 0 where
+  pub handed : handed cs ≡ []
+  pub clock : view (stateOf s cs) .clock ≡ view s .clock
+  pub locked : view (stateOf s cs) .locked ≡ view s .locked
+
+abbrev pub quietCalls : Type 0
+quietCalls = (s : Synchroniser) → Valid s → (cs : List Call) → History s cs → length (accepted cs) ≤ quiet (view s) → QuietCalls s cs

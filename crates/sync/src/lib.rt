@@ -10,9 +10,10 @@ ghost use Rattle.sync.specs.View.{Valid, view};
 ghost use Rattle.sync_steps.specs.Steps.{inputOf};
 ghost use Rattle.sync.specs.Answers.{PushedBy, handedOf};
 ghost use Rattle.sync.specs.Feeds.{FedBy, fedOf, hardly, softly, unpacked, fedWith, feedRules};
-ghost use Rattle.sync_rules.specs.State.{start, hard, pending, slips, netSlip};
+ghost use Rattle.sync_rules.specs.State.{start, hard, pending, slips, netSlip, streamEnd};
+ghost use Rattle.sync_rules.specs.Pushes.{quiet};
 ghost use Rattle.sync_rules.specs.Demand.{demand3};
-ghost use Rattle.sync.specs.Statements.{callsFollow, demandCalls};
+ghost use Rattle.sync.specs.Statements.{callsFollow, demandCalls, endCalls, quietCalls};
 ghost use Rattle.sync_rules.specs.Statements.{rules};
 use sync_rules::Head;
 use sync_steps::Drained;
@@ -29,6 +30,7 @@ use sync_steps::hard_given;
 use sync_steps::made;
 use sync_steps::nothing;
 use sync_steps::put;
+use sync_steps::quiet_of;
 use sync_steps::sends;
 use sync_steps::soft_given;
 
@@ -225,6 +227,24 @@ impl Synchroniser {
         let n = self.numbers;
         n.clock
     }
+
+    // The end of the stream: the settled offset and the bits pending behind it.
+    pub fn stream_end(self) -> u64
+        requires { ⌜ Valid self ⌝ }
+        ensures { λ r. ⌜ r ≡ streamEnd (view self) ⌝ }
+    {
+        let n = self.numbers;
+        n.clock + n.pending as u64
+    }
+
+    // How many dibits can be pushed or fed before one searches or sends: until then no frame goes out and the settled offset stays.
+    pub fn quiet_dibits(self) -> usize
+        requires { ⌜ Valid self ⌝ }
+        ensures { λ r. ⌜ r ≡ quiet (view self) ⌝ }
+    {
+        let n = self.numbers;
+        quiet_of(n)
+    }
 }
 
 // a - b, with its sign.
@@ -329,4 +349,14 @@ pub fn demand_three_of_calls()
 // What a feed does, by the pushes that it makes: no frame is lost, and nothing is pushed twice.
 pub fn feed_is_pushes()
     ensures { λ _. ⌜ feedRules ⌝ }
+{}
+
+// The end of the stream after any history of calls: with the net slip it is the bits pushed, and it stays below 2^42.
+pub fn end_of_calls()
+    ensures { λ _. ⌜ endCalls ⌝ }
+{}
+
+// Calls that make no more pushes than `quiet_dibits` says hand out no frame and leave the settled offset.
+pub fn quiet_calls()
+    ensures { λ _. ⌜ quietCalls ⌝ }
 {}

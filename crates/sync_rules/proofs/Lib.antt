@@ -9,3 +9,4 @@ pub mod Keeping
 pub mod Reaching
 pub mod Offsets
 pub mod Accounts
+pub mod Stillness

@@ -8,14 +8,14 @@ use Prim.Native.Nat.{ℕ, zero, suc, _+_, _-_, _*_, _≤_, _<_}
 use native.Mathlib.Omega.{arith}
 use borrow.Author.Tests.{ltb-true, ltb-false}
 use lib.Dec.{ltb}
-use lib.IntN.{pos, negsuc, subℕ, _+ℤ_}
+use lib.IntN.{pos, negsuc, subℕ, _+ℤ_, +ℤ-idr}
 use lib.ListN.{length, drop, length-drop, length-append}
-use Rattle.sync_rules.specs.State.{State, Input, pending, start, bring}
+use Rattle.sync_rules.specs.State.{State, Input, pending, start, netSlip, streamEnd, bring}
 use Rattle.sync_rules.specs.Frames.{Frame, send, ready}
 use Rattle.sync_rules.specs.Pushes.{Out, search, drain, step, run}
 use Rattle.sync_rules.specs.Demand.{stream, Loses, sentBy}
 use Rattle.sync_rules.specs.Counts.{stateAfter, searched, everSoft, offsets, grid, poor, lockSent}
-use Rattle.sync_rules.specs.Statements.{LockRule, rules}
+use Rattle.sync_rules.specs.Statements.{LockRule, rules, endRule}
 use Rattle.bits.proofs.Conds.{cond-cases, cond-ge}
 use Rattle.sync_rules.proofs.Lying.{Lies, lies-more, lies-length, lies-pending, is-ready, sends, drain-less, search-less}
 use Rattle.sync_rules.proofs.Hunts.{two, Inv, inv-bring, inv-search, inv-step, inv-start, reached}
@@ -332,3 +332,12 @@ all-rules xs =
         → length (sentBy [] xs) ≡ length (run xs start .sent)
         → stateAfter xs .clock + (length (pending (bring x (stateAfter xs))) - length (pending (search (bring x (stateAfter xs))))) ≡ searched (xs ++ (x ∷ [])) start + 384 * length (sentBy [] xs)
     start-of x a b c = omega (arith, a, b, c)
+
+pub end-rule : endRule
+end-rule xs =
+    let m = stateAfter xs in
+    let i = reached xs in
+    let H = stream xs in
+    let n : length (pending m) ≡ length H - (i .lies .from + m .restorable) = lies-length H (m .held) (m .restorable) (i .lies) in
+    let f = i .lies .fits in
+    signed (length H) (streamEnd m) (2 * m .later) (2 * m .earlier) 0 (omega (arith, i .balance)) ∙ +ℤ-idr (pos (streamEnd m) +ℤ netSlip m)

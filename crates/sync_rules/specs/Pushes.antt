@@ -1,8 +1,8 @@
 -- A push: the bits come in, a search where there is no lock, then the frames that are ready; and pushes one after the other.
 -- Assumes nothing.
 use mathlib.Core.List.{List, [], _∷_, _++_}
-use mathlib.Core.Bool.{cond}
-use Prim.Native.Nat.{ℕ, zero, suc, _+_, _-_}
+use mathlib.Core.Bool.{Bool, cond}
+use Prim.Native.Nat.{ℕ, zero, suc, _+_, _-_, _/_}
 use lib.ListN.{length}
 use lib.Dec.{ltb}
 use Rattle.sync_rules.specs.Matching.{locksAt, firstOf}
@@ -53,3 +53,11 @@ run (x ∷ xs) m =
     let a = step x m in
     let b = run xs (a .next) in
     record { sent = a .sent ++ b .sent; next = b .next }
+
+-- the most bits that can be pending with nothing to do: a frame in place has 384, and without a lock a search wants 1,152
+abbrev pub mostIdle : Bool → ℕ
+mostIdle locked = cond locked 383 1151
+
+-- how many pushes can follow of which none searches or sends, whatever they bring
+unfoldable pub quiet : State → ℕ
+quiet m = (mostIdle (m .locked) - length (pending m)) / 2

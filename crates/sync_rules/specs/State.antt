@@ -4,7 +4,7 @@ use mathlib.Core.List.{List, [], _∷_, _++_}
 use mathlib.Core.Bool.{Bool, false, _||_}
 use Prim.Native.Nat.{ℕ, _+_, _-_, _*_, _/_, _%_, min}
 use lib.IntN.{ℤ, subℕ}
-use lib.ListN.{drop}
+use lib.ListN.{length, drop}
 use Rattle.sync_rules.specs.Moves.{Move, laters, earliers}
 
 pub record State : Type 0 where
@@ -31,6 +31,10 @@ slips m = m .later + m .earlier
 -- the signed net slip: two bits for each slip to a later symbol, less two for each to an earlier one
 abbrev pub netSlip : State → ℤ
 netSlip m = subℕ (2 * m .later) (2 * m .earlier)
+
+-- the end of the stream so far: the offset of the bit behind the last pending one
+abbrev pub streamEnd : State → ℕ
+streamEnd m = m .clock + length (pending m)
 
 abbrev pub start : State
 start = record { held = []; reliabilities = []; restorable = 0; taken = 0; clock = 0; later = 0; earlier = 0; frames = 0; synchronised = 0; failures = 0; locked = false; soft = false }

@@ -2,13 +2,13 @@
 -- Assumes nothing.
 use mathlib.Core.Path.{_≡_}
 use mathlib.Core.List.{List, [], _∷_, _++_}
-use mathlib.Core.Bool.{true, false}
+use mathlib.Core.Bool.{true, false, cond}
 use Prim.Native.Nat.{ℕ, suc, _+_, _*_, _≤_, _<_}
 use lib.IntN.{pos, _+ℤ_}
 use lib.ListN.{length, getD, drop}
-use Rattle.sync_rules.specs.State.{Input, start, pending, netSlip, bring}
+use Rattle.sync_rules.specs.State.{State, Input, start, pending, netSlip, streamEnd, bring}
 use Rattle.sync_rules.specs.Frames.{Frame}
-use Rattle.sync_rules.specs.Pushes.{search, drain, step}
+use Rattle.sync_rules.specs.Pushes.{search, drain, step, run, quiet}
 use Rattle.sync_rules.specs.Demand.{stream, Loses, placeOf, sentBy}
 use Rattle.sync_rules.specs.Counts.{stateAfter, searched, everSoft, offsets, grid, poor, lockSent, between, since, total}
 
@@ -61,3 +61,26 @@ pub record Gaps (xs : List Input) : Type 0 where
 
 abbrev pub gapRule : Type 0
 gapRule = (xs : List Input) → Gaps xs
+
+-- the end of the stream plus the signed net slip is the number of bits pushed
+abbrev pub endRule : Type 0
+endRule = (xs : List Input) → pos (length (stream xs)) ≡ pos (streamEnd (stateAfter xs)) +ℤ netSlip (stateAfter xs)
+
+-- Any pushes, hard or soft, no more than `quiet` says: no frame goes out, no search passes a bit, the lock and the slips stay as they are, and as
+-- many pushes as are left of `quiet` can follow so.
+pub record Quiet (xs : List Input) (m : State) : Type 0 where
+  pub sent : run xs m .sent ≡ []
+  pub clock : run xs m .next .clock ≡ m .clock
+  pub searched : searched xs m ≡ 0
+  pub locked : run xs m .next .locked ≡ m .locked
+  pub slips : (run xs m .next .later ≡ m .later) × (run xs m .next .earlier ≡ m .earlier)
+  pub rest : quiet m ≤ length xs + quiet (run xs m .next)
+
+-- `quiet` of any state: pushes that are no more than it says search and send nothing; with one more, as many bits are pending as a frame in place has, or
+-- without a lock as a search wants.
+pub record QuietRule (m : State) : Type 0 where
+  pub still : (xs : List Input) → length xs ≤ quiet m → Quiet xs m
+  pub most : cond (m .locked) 384 1152 ≤ length (pending m) + 2 * suc (quiet m)
+
+abbrev pub quietRule : Type 0
+quietRule = (m : State) → QuietRule m

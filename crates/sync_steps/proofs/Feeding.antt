@@ -29,7 +29,7 @@ none-of [] e = refl
 none-of (f ∷ fs) e = absurd (omega arith)
 
 module _ (room : ℕ) (x : Input) (xs : List Input) (m : State) where
-  fed-silent : answerTo room x m ≡ Taken → step x m .sent ≡ [] → fedOf room (x ∷ xs) m ≡ oneMore (fedOf room xs (step x m .next))
+  pub fed-silent : answerTo room x m ≡ Taken → step x m .sent ≡ [] → fedOf room (x ∷ xs) m ≡ oneMore (fedOf room xs (step x m .next))
   unfolding fedOf unlessRefused unlessSent
   fed-silent e q = ap (λ (a : Push). unlessRefused a m (step x m) (fedOf room xs (step x m .next))) e ∙ ap (λ (fs : List Frame). unlessSent fs (step x m .next) (fedOf room xs (step x m .next))) q
 

@@ -5,11 +5,11 @@ use mathlib.Core.List.{List, [], _∷_}
 use mathlib.Core.Bool.{true, true≢false}
 use Prim.Native.Nat.{ℕ, zero, suc, _+_, _-_, _*_, _/_, _≤_, _<_, min}
 use native.Mathlib.Omega.{arith}
-use lib.ListN.{length, getD, drop, length-drop}
+use lib.ListN.{length, getD, take, drop, length-take, length-drop}
 use lib.Seq.{drop-drop}
 use Rattle.sync_steps.specs.declared.pushes.Given.{Given}
 use Rattle.sync_steps.specs.declared.feeds.Source.{Source}
-use Rattle.sync_steps.specs.declared.feeds.Source.the-variants.{Hard, Soft, Packed}
+use Rattle.sync_steps.specs.declared.feeds.Source.the-variants.{Hard, Soft, Packed, Stretch}
 use Rattle.sync_steps.specs.Feeds.{hardly, softly, unpacked, inputsOf, noneGiven, GivenBy}
 use Rattle.sync_steps.specs.Steps.{hardGiven, softGiven}
 use Rattle.sync_rules.specs.State.{Input, hard}
@@ -72,7 +72,7 @@ unpacked-next (b ∷ bs) (suc zero) (suc i) k e h l = absurd (omega arith)
 unpacked-next (b ∷ bs) (suc (suc zero)) (suc i) k e h l = absurd (omega arith)
 unpacked-next (b ∷ bs) (suc (suc (suc zero))) (suc i) k e h l = absurd (omega arith)
 
-drop-hardly : (ds : List ℕ) (n : ℕ) → drop n (hardly ds) ≡ hardly (drop n ds)
+pub drop-hardly : (ds : List ℕ) (n : ℕ) → drop n (hardly ds) ≡ hardly (drop n ds)
 drop-hardly ds zero = refl
 drop-hardly [] (suc n) = refl
 drop-hardly (d ∷ ds) (suc n) = drop-hardly ds n
@@ -104,6 +104,27 @@ module _ (xs : List Input) (n : ℕ) (g : Given) where
   pub gives-none : g ≡ noneGiven → length xs ≤ n → GivenBy xs n g
   gives-none e h = subst (λ (z : Given). GivenBy xs n z) (sym e) (record { next = λ w. absurd (true≢false (sym w)); ended = λ w. h })
 
+-- push n of the first k pushes
+pub take-hardly : (ds : List ℕ) (k : ℕ) → hardly (take k ds) ≡ take k (hardly ds)
+take-hardly ds zero = refl
+take-hardly [] (suc k) = refl
+take-hardly (d ∷ ds) (suc k) = ap (λ (l : List Input). hard d ∷ l) (take-hardly ds k)
+
+next-of-first : (xs : List Input) (k n : ℕ) (x : Input) → n < k → drop n xs ≡ x ∷ drop (suc n) xs → drop n (take k xs) ≡ x ∷ drop (suc n) (take k xs)
+next-of-first xs zero n x h e = absurd (omega arith)
+next-of-first [] (suc k) zero x h e = e
+next-of-first [] (suc k) (suc n) x h e = e
+next-of-first (y ∷ xs) (suc k) zero x h e = ap (take (suc k)) e
+next-of-first (y ∷ xs) (suc k) (suc n) x h e = next-of-first xs k n x (omega arith) e
+
+pub first-given : (ds : List ℕ) (k n : ℕ) (g : Given) → n < k → GivenBy (hardly ds) n g → GivenBy (hardly (take k ds)) n g
+first-given ds k n g h b =
+    subst (λ (xs : List Input). GivenBy xs n g) (sym (take-hardly ds k))
+    (record { next = λ t. next-of-first (hardly ds) k n _ h (b .next t); ended = λ w. omega (arith, b .ended w, length-take k (hardly ds)) })
+
+pub none-behind : (ds : List ℕ) (k n : ℕ) → k ≤ n → length (hardly (take k ds)) ≤ n
+none-behind ds k n h = omega (arith, length-hardly (take k ds), length-take k ds)
+
 module _ (s : Source) (dibits reliable : List ℕ) (start n : ℕ) (g : Given) where
   pub of-hard : s ≡ Hard → GivenBy (hardly dibits) n g → GivenBy (inputsOf s dibits reliable start) n g
   unfolding inputsOf
@@ -116,3 +137,7 @@ module _ (s : Source) (dibits reliable : List ℕ) (start n : ℕ) (g : Given) w
   pub of-packed : s ≡ Packed → GivenBy (hardly (drop start (unpacked dibits))) n g → GivenBy (inputsOf s dibits reliable start) n g
   unfolding inputsOf
   of-packed e h = subst (λ (z : Source). GivenBy (inputsOf z dibits reliable start) n g) (sym e) h
+
+  pub of-stretch : (most : ℕ) → s ≡ Stretch most → GivenBy (hardly (take most (drop start (unpacked dibits)))) n g → GivenBy (inputsOf s dibits reliable start) n g
+  unfolding inputsOf
+  of-stretch most e h = subst (λ (z : Source). GivenBy (inputsOf z dibits reliable start) n g) (sym e) h

@@ -4,14 +4,14 @@ use mathlib.Core.Path.{_≡_}
 use mathlib.Core.List.{List, [], _∷_, map}
 use mathlib.Core.Bool.{true, false}
 use Prim.Native.Nat.{ℕ, suc, _/_, _%_, _≤_}
-use lib.ListN.{length, drop}
+use lib.ListN.{length, take, drop}
 use Rattle.sync_steps.specs.declared.Push.{Push}
 use Rattle.sync_steps.specs.declared.Push.the-variants.{Taken, Refused}
 use Rattle.sync_steps.specs.declared.pushes.Given.{Given}
 use Rattle.sync_steps.specs.declared.frames.Drained.{Drained}
 use Rattle.sync_steps.specs.declared.feeds.Into.{Into}
 use Rattle.sync_steps.specs.declared.feeds.Source.{Source}
-use Rattle.sync_steps.specs.declared.feeds.Source.the-variants.{Hard, Soft, Packed}
+use Rattle.sync_steps.specs.declared.feeds.Source.the-variants.{Hard, Soft, Packed, Stretch}
 use Rattle.sync_steps.specs.View.{Rings}
 use Rattle.sync_steps.specs.Steps.{inputOf, DrainedBy}
 use Rattle.sync_steps.specs.Answers.{answerTo}
@@ -37,12 +37,13 @@ unfoldable pub unpacked : List ℕ → List ℕ
 unpacked [] = []
 unpacked (b ∷ bs) = b / 64 % 4 ∷ b / 16 % 4 ∷ b / 4 % 4 ∷ b % 4 ∷ unpacked bs
 
--- those of a source; `reliable` is read of a soft one, `start` of a packed one
+-- those of a source; `reliable` is read of a soft one, `start` of packed bytes
 unfoldable pub inputsOf : Source → List ℕ → List ℕ → ℕ → List Input
 unfolding softly unpacked
 inputsOf Hard dibits reliable start = hardly dibits
 inputsOf Soft dibits reliable start = softly dibits reliable
 inputsOf Packed dibits reliable start = hardly (drop start (unpacked dibits))
+inputsOf (Stretch most) dibits reliable start = hardly (take most (drop start (unpacked dibits)))
 
 abbrev pub noneGiven : Given
 noneGiven = record { more = false; dibit = 0; first = 0; second = 0; soft = false }

@@ -2,7 +2,7 @@
 ghost use mathlib.Core.Path.{_≡_};
 ghost use mathlib.Core.List.{[], _∷_};
 ghost use Prim.Native.Nat.{_+_, _^_, _<_, _≤_};
-ghost use lib.ListN.{length, getD, drop};
+ghost use lib.ListN.{length, getD, take, drop};
 ghost use Rattle.sync_steps.specs.View.{Steady, Few, Rings, viewOf};
 ghost use Rattle.sync_steps.specs.Feeds.{GivenBy, FedInto, fedOf, hardly, softly, unpacked, inputsOf, noneGiven, intoOf};
 use super::Push;
@@ -18,11 +18,12 @@ use super::pushes::made;
 use super::pushes::sends;
 use super::pushes::soft_given;
 
-// What is fed: hard dibits, dibits with two reliabilities each, or bytes of four hard dibits.
+// What is fed: hard dibits, dibits with two reliabilities each, bytes of four hard dibits, or of such bytes so many dibits at most.
 pub enum Source {
     Hard,
     Soft,
     Packed,
+    Stretch(usize),
 }
 
 // What many pushes into lent rings came to: the answer to the last, how many were made, and the frames of the last.
@@ -85,6 +86,17 @@ fn packed_at(bytes: &[u8], start: usize, used: usize) -> Given
     no_more()
 }
 
+// The same, of `most` dibits.
+fn stretch_at(bytes: &[u8], start: usize, most: usize, used: usize) -> Given
+    requires { ⌜ used ≤ 2 ^ 40 ⌝ }
+    ensures { λ r. ⌜ GivenBy (hardly (take most (drop start (unpacked (now (bytes .entry)))))) used r ⌝ }
+{
+    if used < most {
+        return packed_at(bytes, start, used);
+    }
+    no_more()
+}
+
 // Dibit `used`, with its two reliabilities.
 fn soft_at(dibits: &[u8], reliable: &[u8], used: usize) -> Given
     ensures { λ r. ⌜ GivenBy (softly (now (dibits .entry)) (now (reliable .entry))) used r ⌝ }
@@ -117,6 +129,7 @@ fn push_of(source: Source, dibits: &[u8], reliable: &[u8], start: usize, used: u
         Source::Hard => hard_at(dibits, used),
         Source::Soft => soft_at(dibits, reliable, used),
         Source::Packed => packed_at(dibits, start, used),
+        Source::Stretch(most) => stretch_at(dibits, start, most, used),
     }
 }
 

@@ -23,6 +23,7 @@ pub use pushes::enough;
 pub use pushes::hard_given;
 pub use pushes::made;
 pub use pushes::put;
+pub use pushes::quiet_of;
 pub use pushes::sends;
 pub use pushes::soft_given;
 

@@ -1,14 +1,16 @@
 // The parts of a push: its tests, its two bits, the search where there is no lock, and its frames.
 ghost use mathlib.Core.Path.{_≡_};
 ghost use mathlib.Core.Bool.{true, false};
-ghost use Prim.Native.Nat.{ℕ, _+_, _-_, _%_, _^_, _<_, _≤_};
+ghost use mathlib.Core.List.{List};
+ghost use Prim.Native.Nat.{ℕ, _+_, _-_, _/_, _%_, _^_, _<_, _≤_};
 ghost use lib.ListN.{length, set};
 ghost use Rattle.bits.specs.Bit.{Bits};
 ghost use Rattle.sync_steps.specs.Ring.{ring};
-ghost use Rattle.sync_steps.specs.View.{Sound, Low, Steady, Rings};
+ghost use Rattle.sync_steps.specs.View.{Sound, Low, Steady, Rings, viewOf};
 ghost use Rattle.sync_steps.specs.Steps.{Brought, Searched, Waiting, SentAfter, inputOf, hardGiven, softGiven};
 ghost use Rattle.sync_steps.specs.Answers.{answerBy, takes};
 ghost use Rattle.sync_rules.specs.Matching.{firstOf, locksAt};
+ghost use Rattle.sync_rules.specs.Pushes.{quiet};
 use super::Push;
 use super::frames::Drained;
 use super::frames::drain;
@@ -173,6 +175,26 @@ pub fn enough(k: Numbers) -> bool
         return 384 <= k.pending;
     }
     1152 <= k.pending
+}
+
+// Half of what is left of `most`, rounded down.
+fn half_left(most: usize, pending: usize) -> usize
+    ensures { λ r. ⌜ r ≡ (most - pending) / 2 ⌝ }
+{
+    if most < pending {
+        return 0;
+    }
+    (most - pending) / 2
+}
+
+// How many pushes can follow of which none searches or sends, whatever stands in the rings.
+pub fn quiet_of(k: Numbers) -> usize
+    ensures { λ r. ⌜ ((bits reliabilities : List ℕ) → r ≡ quiet (viewOf bits reliabilities k)) ⌝ }
+{
+    if k.locked {
+        return half_left(383, k.pending);
+    }
+    half_left(1151, k.pending)
 }
 
 // What follows once the bits of a push are brought: a search where there is no lock, then the frames that are ready.

@@ -1,16 +1,16 @@
 -- `finished`: after the flush nothing waits.
 -- Assumes nothing.
-use mathlib.Core.Path.{refl}
 use native.Mathlib.Omega.{arith}
 use borrow.Author.Needs.{needs}
 use Rattle.merging.proofs.Takings.{none-waits, frames-few}
+use Rattle.merging.proofs.Idling.{all-out}
 use Rattle.merging.proofs.recordings.finished.Statement.{statement}
 use Rattle.merging.proofs.recordings.finished.Tie as tie
 
 release-all-requires : tie.Need-release-all-requires
 release-all-requires c κs =
     let g = c .before .pre in
-    (g .work, omega (arith, g .told, frames-few _ (g .first), frames-few _ (g .second)))
+    (g .work, omega (arith, g .told, frames-few (g .first), frames-few (g .second)))
 
 returns : tie.Need-returns
 returns c =
@@ -21,7 +21,7 @@ returns c =
       first = g .first;
       second = g .second;
       frames = omega (arith, g .told, after .1 .0);
-      kept = omega (arith, after .0 .balance, none-waits _ (after .0) (after .1 .1 refl));
+      kept = omega (arith, after .0 .balance, none-waits _ (after .0) (all-out (call .release-all .result) (after .0 .valid) _ _ (after .1 .1)));
     }
 
 pub finished-spec : {M : Type 1} → statement M

@@ -1,33 +1,25 @@
--- `take`: a push that is made or refused, or none.
+-- `take`: the pushes of a stretch, up to the first that sends or is refused.
 -- Assumes nothing.
+use mathlib.Core.Path.{_≡_}
 use borrow.Author.Needs.{needs}
-use Rattle.sync.specs.View.{view}
-use Rattle.tasks.proofs.Giving.{pushed-reached, pushed-frames, pushed-few}
+use denote.Ref.{now}
+use Rattle.sync_steps.specs.Feeds.{inputsOf}
+use Rattle.merging.proofs.Feeding.{same-dibits, took-as}
 use Rattle.merging.proofs.recordings.take.Statement.{statement}
 use Rattle.merging.proofs.recordings.take.Tie as tie
 
-returns-2 : tie.Need-returns-2
-returns-2 c =
-    let call = c .before .before .before .before in
-    let start = call .before .before .before .before .before .before in
-    let s = start .args .s in
-    let r = call .push .result in
-    let p = call .push .ensures in
-    record {
-      sound = record { valid = p .valid; reached = pushed-reached _ (view s) (start .pre .reached) _ (view (r .next)) (p .next) };
-      three = pushed-few _ _ _ (r .count) (p .many);
-      frames = pushed-frames _ (view s) (start .pre .reached) _ (view (r .next)) (r .count) (p .next) (p .many);
-    }
+feed-into-requires : tie.Need-feed-into-requires
+feed-into-requires c κs =
+    let sound = c .before .before .before .before .pre in
+    (sound .steady, (sound .few, sound .rings))
+
+returns : tie.Need-returns
+unfolding inputsOf
+returns c =
+    let call = c .before .before .before .before .before in
+    let start = call .before .before .before .before .before in
+    let a = start .args in
+    took-as _ _ (start .pre .reached) _ _ _ _ _ _ _ (same-dibits (now (a .piece)) (a .n) (a .i)) (search needs) (call .feed-into .ensures) _ (c .before .before .before .settled-after .ensures)
 
 pub take-spec : {M : Type 1} → statement M
-take-spec =
-    tie.close
-    (tie.spec
-    (λ c κs. search needs)
-    (λ c. search needs)
-    (λ c. search needs)
-    (λ c κs. search needs)
-    (λ c κs. search needs)
-    (λ c κs. search needs)
-    (λ c κs. search needs)
-    returns-2)
+take-spec = tie.close (tie.spec feed-into-requires (λ c κs. search needs) (λ c κs. search needs) returns)

@@ -6,7 +6,7 @@ use Prim.Native.Nat.{_+_}
 use borrow.Author.Needs.{needs}
 use Rattle.merger.specs.declared.Merger.{Merger}
 use Rattle.merging.specs.Accounts.{TookOut}
-use Rattle.merging.proofs.Takings.{took-out, frees-one, frees-some, fell-frame, fell-passed, none-left, slots-small, chosen-small}
+use Rattle.merging.proofs.Takings.{took-out, frees-one, frees-some, fell-frame, fell-passed, slots-small, chosen-small}
 use Rattle.merging.proofs.releasing.release_first.Statement.{statement}
 use Rattle.merging.proofs.releasing.release_first.Tie as tie
 
@@ -50,7 +50,7 @@ returns c =
         c .journaled .ensures .1 .0,
         (
           λ more. ap (λ (m : Merger). m .n + 1) (c .journaled .ensures .1 .1) ∙ fell-frame (a .w) (a .primary) (a .alternate) (a .flush) r (call .release .ensures) (start .pre .0 .valid) _ (known .answer .given .1),
-          λ t none. absurd (true≢false none),
+          λ none. absurd (true≢false none),
         ),
       ),
     )
@@ -67,7 +67,7 @@ returns-2 c =
         c .passed-over .ensures .1 .0,
         (
           λ more. ap (λ (m : Merger). m .n + 1) (c .passed-over .ensures .1 .1) ∙ fell-passed (a .w) (a .primary) (a .alternate) (a .flush) r (call .release .ensures) (start .pre .0 .valid) (told .enum-told .given .1),
-          λ t none. absurd (true≢false none),
+          λ none. absurd (true≢false none),
         ),
       ),
     )
@@ -82,7 +82,7 @@ returns-3 c =
         refl,
         (
           λ more. absurd (true≢false (sym more)),
-          λ t none. none-left (a .w) (a .primary) (a .alternate) (a .flush) (call .release .result) (call .release .ensures) (start .pre .0 .valid) t (c .enum-told2 .given .1),
+          λ none. sym (call .release .ensures .answers) ∙ c .enum-told2 .given .1,
         ),
       ),
     )
