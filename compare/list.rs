@@ -91,8 +91,12 @@ impl List {
     /// Beside the cases: what a case met next to a limit.
     pub fn met(&mut self, kind: &str, met: &[(&str, u32)]) {
         for (name, count) in met {
-            *self.tally.entry(format!("limits of {kind}: {name} {count}")).or_default() += 1;
+            self.beside(format!("limits of {kind}: {name} {count}"));
         }
+    }
+    /// Beside the cases: something else that a case met.
+    pub fn beside(&mut self, met: String) {
+        *self.tally.entry(met).or_default() += 1;
     }
     pub fn cases(&self) -> u64 {
         self.cases

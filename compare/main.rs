@@ -3,10 +3,12 @@
 //! soft, sync, merger), and says on standard error how many reached which branch.
 mod coding;
 mod coding_cases;
+#[path = "noted_frame.rs"]
 mod frame;
 mod list;
 mod merger_cases;
 mod soft_cases;
+mod streams;
 mod sync_cases;
 mod tail_cases;
 mod voice_cases;

@@ -32,11 +32,12 @@ fn main() {
     }
 }
 
-/// The kinds of pairs; 0 is locked from end to end.
+/// The kinds of pairs; 0 is locked from end to end. The last is for compare/slips: its recordings have nothing but slips, about one in each frame.
 const ERRORS: u64 = 1;
 const ONE_IN_NOISE: u64 = 2;
 const SLIPS: u64 = 3;
 const LENGTHS: u64 = 4;
+const MANY_SLIPS: u64 = 5;
 
 /// What is on the air at a time: a frame of a transmission, or nothing for so many bits, where each receiver hears noise of its own.
 enum Air {
@@ -52,7 +53,8 @@ fn pair(kind: u64, seed: u64, bits: usize) -> [Vec<u8>; 2] {
     let [first, mut second] = [0, 1].map(|_| heard(&mut random, &air, rough, bits));
     match kind {
         ONE_IN_NOISE => drown(&mut random, &mut second),
-        SLIPS => return [first, second].map(|bits| slipped(&mut random, &bits)),
+        SLIPS => return [first, second].map(|bits| slipped(&mut random, &bits, 8)),
+        MANY_SLIPS => return [first, second].map(|bits| slipped(&mut random, &bits, 1)),
         LENGTHS => second.truncate(8 * early_end(&air, bits)),
         _ => {}
     }
@@ -134,9 +136,9 @@ fn drown(random: &mut Random, bits: &mut [u8]) {
     }
 }
 
-/// About once in eight frames a dibit is lost or comes twice.
-fn slipped(random: &mut Random, bits: &[u8]) -> Vec<u8> {
-    let mut times = || [0, 2].get(random.below(2 * 8 * 192) as usize).copied().unwrap_or(1);
+/// About once in so many frames a dibit is lost or comes twice.
+fn slipped(random: &mut Random, bits: &[u8], frames: u64) -> Vec<u8> {
+    let mut times = || [0, 2].get(random.below(2 * frames * 192) as usize).copied().unwrap_or(1);
     bits.chunks_exact(2).flat_map(|dibit| dibit.repeat(times())).collect()
 }
 

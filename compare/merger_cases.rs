@@ -15,7 +15,8 @@ pub fn write(list: &mut List, random: &mut Random, count: u64) {
 
 struct Script {
     merger: Merger,
-    yes: HashMap<u64, bool>,
+    /// By the caller's number: whether its check says yes, and the offset of the push.
+    pushed: HashMap<u64, (bool, u64)>,
     /// How offsets are chosen: on one grid, near it, anywhere, or at the borders of the rules.
     kind: u64,
     grid: u64,
@@ -35,7 +36,7 @@ impl Script {
         };
         Script {
             merger: Merger::default(),
-            yes: HashMap::new(),
+            pushed: HashMap::new(),
             kind: random.below(4),
             grid: clock,
             clock,
@@ -81,14 +82,20 @@ impl Script {
     fn push(&mut self, list: &mut List, random: &mut Random) {
         let stream = if random.once_in(60) { 2 + random.below(254) } else { random.below(2) };
         let offset = self.offset(random);
-        let (yes, matched, errors) = (random.once_in(2), random.once_in(2), random.below(49) as u8);
+        let (yes, matched, errors, moves) = (random.once_in(2), random.once_in(2), random.below(49) as u8, some_moves(random));
         self.number += 1;
         let mut input = vec![stream as u8];
         input.extend(offset.to_be_bytes());
         input.extend([matched as u8, errors]);
+        input.extend(moves.map(|bits| bits as u8));
         input.extend(self.number.to_be_bytes());
         input.push(yes as u8);
-        let (answer, branch) = self.pushed(stream, offset, yes, matched, errors);
+        // The caller's number lies in the envelope's first eight bytes.
+        let mut received = [0u8; 48];
+        received[..8].copy_from_slice(&self.number.to_be_bytes());
+        self.pushed.insert(self.number, (yes, offset));
+        let frame = Frame { bit_offset: offset, sync_matched: matched, marker_errors: errors as u32, moves, received, confidence: Vec::new() };
+        let (answer, branch) = self.take(stream, frame);
         list.case(MERGER_PUSH, &input, &[answer], branch);
         if random.once_in(2) {
             self.clock += [384 * random.below(20), random.below(9_000)].get(random.below(30) as usize).copied().unwrap_or(384);
@@ -96,7 +103,8 @@ impl Script {
         }
     }
 
-    fn pushed(&mut self, stream: u64, offset: u64, yes: bool, matched: bool, errors: u8) -> (u8, &'static str) {
+    fn take(&mut self, stream: u64, frame: Frame) -> (u8, &'static str) {
+        let offset = frame.bit_offset;
         if stream > 1 {
             let before = offset > LAST_OFFSET;
             return (107, if before { "merger push: refused 7 before 8 (ours)" } else { "merger push: refused 7 (ours)" });
@@ -110,11 +118,6 @@ impl Script {
             return (109, "merger push: refused 9 (ours)");
         }
         let before = self.merger.held();
-        // The caller's number lies in the envelope's first eight bytes.
-        let mut received = [0u8; 48];
-        received[..8].copy_from_slice(&self.number.to_be_bytes());
-        self.yes.insert(self.number, yes);
-        let frame = Frame { bit_offset: offset, sync_matched: matched, marker_errors: errors as u32, received, confidence: Vec::new() };
         self.merger.push(stream as usize, frame);
         match (self.merger.held() > before, late) {
             (true, _) => (0, "merger push: kept"),
@@ -142,16 +145,21 @@ impl Script {
         input.extend(settled[0].unwrap_or(7).to_be_bytes());
         input.extend(settled[1].unwrap_or(9).to_be_bytes());
         let before = self.merger.positions();
-        let yes = &self.yes;
-        let number_of = |f: &Frame| u64::from_be_bytes(f.received[..8].try_into().unwrap());
-        let frames = self.merger.release(settled, flush, |f| yes[&number_of(f)]);
+        let pushed = &self.pushed;
+        let of = |f: &Frame| pushed[&u64::from_be_bytes(f.received[..8].try_into().unwrap())];
+        let frames = self.merger.release(settled, flush, |f| of(f).0);
         let gone = before - self.merger.positions();
         let mut answer = vec![gone as u8];
         for (frame, alternate) in &frames {
             answer.extend(frame.bit_offset.to_be_bytes());
             answer.extend([frame.sync_matched as u8, frame.marker_errors as u8]);
+            answer.extend(frame.moves.map(|bits| bits as u8));
             answer.extend(frame.received[..8].iter());
             answer.push(*alternate as u8);
+            if frame.moves != [0; 3] {
+                let at = if frame.bit_offset == of(frame).1 { "its own" } else { "another" };
+                list.beside(format!("moves not zero, released at {at} offset"));
+            }
         }
         let branch = match (gone, gone - frames.len()) {
             (0, _) => "merger release: nothing ready",
@@ -160,4 +168,14 @@ impl Script {
         };
         list.case(MERGER_RELEASE, &input, &answer, branch);
     }
+}
+
+/// Most often such as frames have: a symbol more or less, or none, in front, at the second segment, and from there to the third. The merger passes
+/// on what it gets: at times they are any three bytes.
+fn some_moves(random: &mut Random) -> [i8; 3] {
+    if random.once_in(20) {
+        return [0; 3].map(|_| random.byte() as i8);
+    }
+    let [front, second, further] = [0; 3].map(|_| 2 * random.below(3) as i8 - 2);
+    [front, second, second + further]
 }

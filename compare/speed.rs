@@ -5,7 +5,7 @@ mod coding;
 mod coding_cases;
 mod frame;
 mod list;
-mod sync_cases;
+mod streams;
 mod voice_cases;
 mod voice_frame;
 
@@ -109,9 +109,9 @@ fn damaged(random: &mut Random, clean: &[u8; 48], wrong: usize) -> [u8; 48] {
 
 fn dibits(operation: &str, random: &mut Random, n: usize) -> Vec<u8> {
     let bits = match operation {
-        "push-locked" | "feed-locked" => sync_cases::clean(random, 2 * n),
+        "push-locked" | "feed-locked" => streams::clean(random, 2 * n),
         "push-noise" | "feed-noise" => (0..2 * n).map(|_| random.below(2) as u8).collect(),
-        _ => sync_cases::rough(random, 2 * n),
+        _ => streams::rough(random, 2 * n),
     };
     bits.chunks_exact(2).map(|pair| 2 * pair[0] + pair[1]).collect()
 }

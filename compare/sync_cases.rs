@@ -1,8 +1,8 @@
 //! Streams of pushes, hard, soft and mixed, and of feeds. Each push is a case of its own, and so is each feed, which ends with the first
 //! push that sends or is refused; the synchroniser goes on from case to case.
-use crate::coding::scramble;
 use crate::frame::{Frame, Synchronizer};
 use crate::list::*;
+use crate::streams::stream;
 
 /// How the pushes of one stream are made.
 #[derive(Clone, Copy, PartialEq)]
@@ -47,124 +47,9 @@ fn feeds(list: &mut List, random: &mut Random, count: u64) {
     }
 }
 
-/// A stream of about `most` bits: noise, runs of frames with damage and slips, stretches that are lost. Half of them begin with a lock.
-fn stream(random: &mut Random, most: usize) -> Vec<u8> {
-    let mut bits = if random.once_in(2) { clean(random, 4 * 384) } else { Vec::new() };
-    while bits.len() < most {
-        match random.below(6) {
-            0 => noise(random, &mut bits),
-            1 => lose(random, &mut bits),
-            _ => frames(random, &mut bits),
-        }
-    }
-    bits.truncate(most & !1);
-    bits
-}
-
-/// Frames with nothing wrong.
-pub fn clean(random: &mut Random, most: usize) -> Vec<u8> {
-    let mut bits = Vec::new();
-    while bits.len() < most {
-        let word: [u8; 42] = random.bytes(42).try_into().unwrap();
-        bits.extend(bits_of(&scramble(&word)));
-    }
-    bits.truncate(most);
-    bits
-}
-
-/// Frames of which each is damaged or slips.
-pub fn rough(random: &mut Random, most: usize) -> Vec<u8> {
-    let mut bits = Vec::new();
-    while bits.len() < most {
-        let word: [u8; 42] = random.bytes(42).try_into().unwrap();
-        let mut frame = bits_of(&scramble(&word));
-        match random.below(4) {
-            0 => break_markers(random, &mut frame),
-            1 => slip(random, &mut frame),
-            2 => flip(random, &mut frame),
-            _ => {}
-        }
-        bits.extend(frame);
-    }
-    bits.truncate(most);
-    bits
-}
-
-fn bits_of(envelope: &[u8; 48]) -> Vec<u8> {
-    envelope.iter().flat_map(|x| (0..8).rev().map(move |k| x >> k & 1)).collect()
-}
-
-fn noise(random: &mut Random, bits: &mut Vec<u8>) {
-    for _ in 0..random.below(3_000) {
-        bits.push(random.below(2) as u8);
-    }
-}
-
-fn lose(random: &mut Random, bits: &mut Vec<u8>) {
-    let n = random.below(500) as usize;
-    bits.truncate(bits.len().saturating_sub(n));
-}
-
-fn frames(random: &mut Random, bits: &mut Vec<u8>) {
-    let rough = random.below(6);
-    for _ in 0..1 + random.below(24) {
-        let word: [u8; 42] = random.bytes(42).try_into().unwrap();
-        let mut frame = bits_of(&scramble(&word));
-        match rough {
-            0 | 1 => {}
-            2 => break_markers(random, &mut frame),
-            3 => slip(random, &mut frame),
-            4 => flip(random, &mut frame),
-            _ => match random.below(5) {
-                0 => break_markers(random, &mut frame),
-                1 => slip(random, &mut frame),
-                2 => flip(random, &mut frame),
-                _ => {}
-            },
-        }
-        bits.extend(frame);
-    }
-}
-
-/// Some bits of one, two or three markers wrong, the two highest among them, which do not count for a match.
-fn break_markers(random: &mut Random, frame: &mut [u8]) {
-    for segment in 0..3 {
-        if random.once_in(2) {
-            for _ in 0..1 + random.below(3) {
-                frame[128 * segment + random.below(16) as usize] ^= 1;
-            }
-        }
-    }
-}
-
-fn flip(random: &mut Random, frame: &mut [u8]) {
-    for _ in 0..random.below(40) {
-        let at = random.below(frame.len() as u64) as usize;
-        frame[at] ^= 1;
-    }
-}
-
-/// One symbol inserted or dropped, in front, in the first, second or third segment; or half a symbol.
-fn slip(random: &mut Random, frame: &mut Vec<u8>) {
-    let at = match random.below(4) {
-        0 => 0,
-        1 => 20 + random.below(100) as usize,
-        2 => 150 + random.below(90) as usize,
-        _ => 280 + random.below(90) as usize,
-    };
-    let width = if random.once_in(4) { 1 } else { 2 };
-    for _ in 0..width {
-        if random.once_in(2) {
-            frame.insert(at, random.below(2) as u8);
-        } else {
-            frame.remove(at);
-        }
-    }
-}
-
 fn push_all(list: &mut List, random: &mut Random, bits: &[u8], way: Way) {
     let mut synchroniser = Synchronizer::default();
-    let mut taken = 0u32;
+    let (mut taken, mut moved) = (0u32, Moved::default());
     list.case(NEW_SYNCHRONISER, &[], &[], "synchroniser: new");
     for pair in bits.chunks_exact(2) {
         let dibit = 2 * pair[0] + pair[1];
@@ -186,35 +71,23 @@ fn push_all(list: &mut List, random: &mut Random, bits: &[u8], way: Way) {
         };
         let branch = branch(before, &synchroniser, &sent);
         list.case(kind, &input, &answer(&synchroniser, taken, &sent), branch);
+        moved.by(list, &sent, &synchroniser);
     }
 }
 
 /// A stream in feeds of up to 800 dibits. What a feed did not take is fed again, without a dibit that was refused.
 fn feed_all(list: &mut List, random: &mut Random, dibits: &mut Vec<u8>, kind: u8) {
     let mut synchroniser = Synchronizer::default();
-    let (mut at, mut taken) = (0, 0u32);
+    let (mut at, mut taken, mut moved) = (0, 0u32, Moved::default());
     list.case(NEW_SYNCHRONISER, &[], &[], "synchroniser: new");
     while at < dibits.len() {
         let most = (dibits.len() - at).min(1 + random.below(800) as usize);
         let lent = &dibits[at..at + most];
         let (input, fed) = feed_input(random, kind, lent);
         let before = (synchroniser.locked, synchroniser.slips);
-        let (mut used, mut sent, mut refused) = (0u16, Vec::new(), false);
-        for (dibit, reliabilities) in fed {
-            if dibit > 3 {
-                refused = true;
-                break;
-            }
-            match reliabilities {
-                Some(r) => synchroniser.push_soft(dibit, r, &mut sent),
-                None => synchroniser.push(dibit, &mut sent),
-            }
-            used += 1;
-            taken += 1;
-            if !sent.is_empty() {
-                break;
-            }
-        }
+        let mut sent = Vec::new();
+        let (used, refused) = feed(&mut synchroniser, fed, &mut sent);
+        taken += used as u32;
         let mut expected = used.to_be_bytes().to_vec();
         if refused {
             expected.push(1);
@@ -225,8 +98,28 @@ fn feed_all(list: &mut List, random: &mut Random, dibits: &mut Vec<u8>, kind: u8
             let branch = branch(before, &synchroniser, &sent).replace("push:", "feed:");
             list.case(kind, &input, &expected, &branch);
         }
+        moved.by(list, &sent, &synchroniser);
         at += used as usize;
     }
+}
+
+/// Dibits until one sends or is refused: how many were taken, and whether the next was refused.
+fn feed(synchroniser: &mut Synchronizer, fed: Vec<(u8, Option<[u8; 2]>)>, sent: &mut Vec<Frame>) -> (u16, bool) {
+    let mut used = 0;
+    for (dibit, reliabilities) in fed {
+        if dibit > 3 {
+            return (used, true);
+        }
+        match reliabilities {
+            Some(r) => synchroniser.push_soft(dibit, r, sent),
+            None => synchroniser.push(dibit, sent),
+        }
+        used += 1;
+        if !sent.is_empty() {
+            break;
+        }
+    }
+    (used, false)
 }
 
 /// The dibits and reliabilities that a feed of that kind gets, and how its case says so.
@@ -271,6 +164,7 @@ fn answer(synchroniser: &Synchronizer, taken: u32, sent: &[Frame]) -> Vec<u8> {
     for frame in sent {
         out.extend(frame.bit_offset.to_be_bytes());
         out.extend([frame.sync_matched as u8, frame.marker_errors as u8]);
+        out.extend(frame.moves.map(|bits| bits as u8));
         out.extend(frame.received);
         out.extend(&frame.confidence);
     }
@@ -285,6 +179,25 @@ fn answer(synchroniser: &Synchronizer, taken: u32, sent: &[Frame]) -> Vec<u8> {
     out.extend(taken.to_be_bytes());
     out.extend(synchroniser.settled().unwrap_or(0).to_be_bytes());
     out
+}
+
+/// The net slip and the slips followed, added up from the moves of frames. The original keeps both sums itself: the notes are held to them.
+#[derive(Default)]
+struct Moved {
+    net: i64,
+    slips: u64,
+}
+
+impl Moved {
+    /// Some frames more; those with a move are counted by their moves.
+    fn by(&mut self, list: &mut List, sent: &[Frame], synchroniser: &Synchronizer) {
+        for [front, second, third] in sent.iter().map(|f| f.moves).filter(|&moves| moves != [0; 3]) {
+            list.beside(format!("moves {front} {second} {third}"));
+            self.net += front as i64 + third as i64;
+            self.slips += [front, second, third - second].iter().map(|bits| bits.unsigned_abs() as u64 / 2).sum::<u64>();
+        }
+        assert_eq!((self.net, self.slips), (synchroniser.net_slip(), synchroniser.slips));
+    }
 }
 
 fn branch(before: (bool, u64), after: &Synchronizer, sent: &[Frame]) -> &'static str {

@@ -15,3 +15,4 @@ pub mod BigEndians
 pub mod Tests
 pub mod BelowSets
 pub mod Turns
+pub mod Signs

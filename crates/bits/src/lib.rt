@@ -1,6 +1,7 @@
-// What every other crate uses: the numbered refusals, and bits of bytes. The definitions are in specs/, their laws in proofs/.
+// What every other crate uses: the numbered refusals, bits of bytes, and a number's amount. The definitions are in specs/, their laws in proofs/.
 ghost use mathlib.Core.Path.{_≡_};
 ghost use Prim.Native.Nat.{_<_};
+ghost use lib.IntN.{natAbs};
 ghost use Rattle.bits.specs.BigEndian.{bigEndian};
 ghost use Rattle.bits.specs.Refusals.{numberOf};
 
@@ -81,4 +82,15 @@ pub fn bytes_of(x: u64) -> [u8; 8]
         (x1 % 256) as u8,
         (x % 256) as u8,
     ]
+}
+
+// A number without its sign. The way round by -1 - n fits even where -n does not.
+pub fn amount(n: i64) -> u64
+    ensures { λ r. ⌜ r ≡ natAbs n ⌝ }
+{
+    if n < 0 {
+        let below = -1 - n;
+        return below as u64 + 1;
+    }
+    n as u64
 }

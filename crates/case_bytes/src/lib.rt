@@ -2,12 +2,12 @@
 ghost use mathlib.Core.Path.{_≡_};
 ghost use mathlib.Core.List.{_∷_, []};
 ghost use Prim.Native.Nat.{_+_, _-_, _*_, _<_, min};
-ghost use lib.IntN.{natAbs, pos};
+ghost use lib.IntN.{pos};
 ghost use lib.ListN.{getD};
 ghost use lib.Signed.{ltZ};
 ghost use Rattle.bits.specs.BigEndian.{valueOf};
 ghost use Rattle.bits.specs.Bit.{tab};
-ghost use Rattle.case_bytes.specs.Bytes.{Put, flagByte, lastBytes, signedBytes};
+ghost use Rattle.case_bytes.specs.Bytes.{Put, flagByte, lastBytes, signedByte, signedBytes, threeBytes, twosByte, twosComeBack};
 
 // A byte of the input. Past its end there are zeros.
 pub fn at(input: &[u8], i: usize) -> u8
@@ -112,7 +112,7 @@ pub fn put_signed(out: &mut [u8], place: usize, n: i64, width: usize) -> usize
     ensures { λ r. ⌜ Put (now (out .entry)) place (signedBytes width n) (now (out .exit)) r ⌝ }
 {
     let next = put_flag(&mut *out, place, below_zero(n));
-    put_number(out, next, amount(n), width)
+    put_number(out, next, bits::amount(n), width)
 }
 
 fn below_zero(n: i64) -> bool
@@ -121,13 +121,38 @@ fn below_zero(n: i64) -> bool
     n < 0
 }
 
-// A number without its sign. The way round by -1 - n fits even where -n does not.
-fn amount(n: i64) -> u64
-    ensures { λ r. ⌜ r ≡ natAbs n ⌝ }
+// A number from -128 to 127 in a byte, in two's complement. The way round by -1 - n fits even where -n does not.
+fn put_twos(out: &mut [u8], place: usize, n: i8) -> usize
+    ensures { λ r. ⌜ Put (now (out .entry)) place (twosByte n ∷ []) (now (out .exit)) r ⌝ }
 {
     if n < 0 {
         let below = -1 - n;
-        return below as u64 + 1;
+        return put(out, place, 255 - below as u8);
     }
-    n as u64
+    put(out, place, n as u8)
 }
+
+// Three such numbers, as a frame's moves are.
+pub fn put_three(out: &mut [u8], place: usize, a: i8, b: i8, c: i8) -> usize
+    ensures { λ r. ⌜ Put (now (out .entry)) place (threeBytes a b c) (now (out .exit)) r ⌝ }
+{
+    let second = put_twos(&mut *out, place, a);
+    let third = put_twos(&mut *out, second, b);
+    put_twos(out, third, c)
+}
+
+// A byte read as a number in two's complement.
+pub fn signed(byte: u8) -> i8
+    ensures { λ r. ⌜ r ≡ signedByte byte ⌝ }
+{
+    if byte < 128 {
+        return byte as i8;
+    }
+    let below = 255 - byte;
+    -1 - below as i8
+}
+
+// Bytes in two's complement are read as the numbers that were put.
+pub fn twos_come_back()
+    ensures { λ _. ⌜ twosComeBack ⌝ }
+{}

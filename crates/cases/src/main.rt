@@ -11,20 +11,23 @@ fn opened(i: usize) -> i32 {
     os::open_read(&name[..n])
 }
 
-// listing FILE, record FILE, show FILE.
+// listing FILE, slips FILE, record FILE, show FILE: the second letters tell them apart.
 fn run_on_file(letter: u8, i: usize) -> usize
     requires { ⌜ i < 200 ⌝ }
     ensures { λ r. ⌜ r ≤ 4 ⌝ }
 {
     let fd = opened(i);
     io::write_all(1, b"\n");
-    if letter == b'l' {
+    if letter == b'i' {
         tasks::list(fd);
     }
-    if letter == b'r' {
+    if letter == b'l' {
+        tasks::slips(fd);
+    }
+    if letter == b'e' {
         tasks::record(fd);
     }
-    if letter == b's' {
+    if letter == b'h' {
         tasks::show(fd);
     }
     libc::close(fd);
@@ -84,16 +87,17 @@ fn run_one(i: usize) -> usize
     io::write_all(1, b"== ");
     io::write_all(1, &program[..n]);
     let first = program[0];
+    let second = program[1];
     if first == b'm' {
         return run_merge(i + 1);
     }
-    if program[1] == b'p' {
+    if second == b'p' {
         return run_with_table(first, i + 1);
     }
     if program[6] == b'-' {
         return run_with_table(first, i + 1);
     }
-    run_on_file(first, i + 1)
+    run_on_file(second, i + 1)
 }
 
 fn main() {

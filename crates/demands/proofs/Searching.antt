@@ -6,7 +6,7 @@ use mathlib.Core.Path.{_≡_, refl, sym, ap, ap₂, _∙_, subst}
 use Prim.Native.Nat.{ℕ, zero, suc, _+_, _-_, _*_, _≤_, _<_, _^_}
 use native.Mathlib.Omega.{arith}
 use borrow.Author.Tests.{le-ltb, lt-leb}
-use lib.IntN.{pos, _+ℤ_}
+use lib.IntN.{pos, _+ℤ_, +ℤ-idl}
 use lib.ListN.{length, getD, take, drop, length-take}
 use lib.Seq.{getD-take}
 use Rattle.sync.specs.declared.Synchroniser.{Synchroniser}
@@ -14,8 +14,10 @@ use Rattle.sync_steps.specs.declared.Push.the-variants.{Taken}
 use Rattle.sync.specs.View.{view}
 use Rattle.sync_steps.specs.Answers.{answerTo}
 use Rattle.sync.specs.Calls.{Call, History, stateOf, accepted, Got, handed, shownAs, streamOf, placeIn, lastGot, firstGot, gotInARow}
-use Rattle.sync.specs.Statements.{callsFollow, demandCalls}
+use Rattle.sync.specs.Statements.{callsFollow, demandCalls, movesGot, moveCalls}
+use Rattle.sync_rules.specs.Slips.{SlippedBy, netOfAll, slipsOfAll}
 use Rattle.sync_rules.specs.Matching.{errors}
+use Rattle.sync_rules.specs.Moves.{noMoves}
 use Rattle.sync_rules.specs.State.{State, Input, start, pending, netSlip, bring}
 use Rattle.sync_rules.specs.Frames.{Frame}
 use Rattle.sync_rules.specs.Pushes.{search, drain, run}
@@ -32,7 +34,7 @@ use Rattle.demands.proofs.Locks.{found-held}
 abbrev standing : List ℕ → ℕ → ℕ → Got
 standing s a o =
     record {
-      head = record { offset = o; matched = true; errors = errors s a 0 + errors s (a + 128) 1 + errors s (a + 256) 2 };
+      head = record { offset = o; matched = true; errors = errors s a 0 + errors s (a + 128) 1 + errors s (a + 256) 2; moves = noMoves };
       envelope = envelopeOf (take 384 (drop a s));
     }
 
@@ -88,6 +90,7 @@ exactly bits p q k earlier out h row =
       envelope = λ j l. ap (λ (g : Got). g .envelope) (at j l);
       matched = λ j l. ap (λ (g : Got). g .head .matched) (at j l);
       wrong = λ j l. ap (λ (g : Got). g .head .errors) (at j l);
+      unmoved = λ j l. ap (λ (g : Got). g .head .moves) (at j l);
       first-of-all = λ e. offset 0 (omega arith) ∙ zero-more ∙ ap (λ (l : List Got). firstGot l p q) e ∙ first-none p q;
       first-again = λ fs f e. offset 0 (omega arith) ∙ zero-more ∙ ap (λ (l : List Got). firstGot l p q) e ∙ first-some fs f p q;
       later = λ j l. omega (arith, offset j (omega arith), offset (suc j) l);
@@ -140,7 +143,7 @@ module _ (xs : List Input) (g : Gaps xs) where
 
 -- ---- document 01's sentences
 
-module _ (follow : callsFollow) (rule : rules) (gap : gapRule) (s : Synchroniser) (n : New s) (cs : List Call) (h : History s cs) where
+module _ (follow : callsFollow) (rule : rules) (gap : gapRule) (move : moveCalls) (s : Synchroniser) (n : New s) (cs : List Call) (h : History s cs) where
   abbrev xs : List Input
   xs = accepted cs
 
@@ -175,6 +178,9 @@ module _ (follow : callsFollow) (rule : rules) (gap : gapRule) (s : Synchroniser
       let clock : stateAfter xs .clock ≡ searched xs start + 384 * length (handed cs) = r .clock ∙ ap (λ (i : ℕ). searched xs start + 384 * i) (sym many) in
       subst Told (sym led) (r .locked, r .searching, r .held, clock, r .balance, r .soft)
 
+  moved : SlippedBy start (view (stateOf s cs)) (movesGot (handed cs))
+  moved = subst (λ (m : State). SlippedBy m (view (stateOf s cs)) (movesGot (handed cs))) (n .fresh) (move s (n .valid) cs h)
+
   pub always : Always s cs
   unfolding Told
   always =
@@ -186,11 +192,14 @@ module _ (follow : callsFollow) (rule : rules) (gap : gapRule) (s : Synchroniser
         offset = offset-at;
         clock = told .3;
         balance = told .4;
+        net = moved .net ∙ +ℤ-idl (netOfAll (movesGot (handed cs)));
+        followed = omega (arith, moved .followed);
+        ranges = moved .ranges;
         made = led;
         lock = rule xs .lock;
         found = λ c p some w. found-held (stateOf s cs) c p (omega arith) w;
         soft = told .5;
       }
 
-pub statements : callsFollow → rules → gapRule → Statements
-statements follow rule gap s n cs h = always follow rule gap s n cs h
+pub statements : callsFollow → rules → gapRule → moveCalls → Statements
+statements follow rule gap move s n cs h = always follow rule gap move s n cs h

@@ -16,12 +16,15 @@ use Rattle.sync_steps.specs.Answers.{answerTo}
 use Rattle.sync.specs.Calls.{Call, History, stateOf, accepted, Got, handed, streamOf, placeIn, BeginsAt}
 use Rattle.sync.specs.Calls.{answerOf, Meets}
 use Rattle.sync_rules.specs.Matching.{locksAt, inPlace, errors}
-use Rattle.sync_rules.specs.State.{Input, start, pending, netSlip, bring}
+use Rattle.sync_rules.specs.Moves.{noMoves}
+use Rattle.sync_rules.specs.State.{Input, start, pending, slips, netSlip, bring}
 use Rattle.sync_rules.specs.Pushes.{search, drain}
 use Rattle.sync_rules.specs.Room.{envelopeOf}
 use Rattle.sync_rules.specs.Demand.{stream, FirstLock}
 use Rattle.sync_rules.specs.Counts.{stateAfter, searched, everSoft, lockSent, between, total}
 use Rattle.sync_rules.specs.Statements.{LockRule}
+use Rattle.sync_rules.specs.Slips.{netOfAll, slipsOfAll, AllInRange}
+use Rattle.sync.specs.Statements.{movesGot}
 
 -- what `Synchroniser::new` promises of the state that it hands out
 pub record New (s : Synchroniser) : Type 0 where
@@ -30,7 +33,7 @@ pub record New (s : Synchroniser) : Type 0 where
 
 -- frame j of those handed out
 abbrev pub frame : List Got → ℕ → Got
-frame fs j = getD fs j (record { head = record { offset = 0; matched = false; errors = 0 }; envelope = [] })
+frame fs j = getD fs j (record { head = record { offset = 0; matched = false; errors = 0; moves = noMoves }; envelope = [] })
 
 -- ---- demand 3
 
@@ -50,6 +53,8 @@ pub record Exact (bits : List ℕ) (p q k : ℕ) (earlier out : List Got) : Type
   pub matched : (j : ℕ) → j < k → frame out j .head .matched ≡ true
   pub wrong : (j : ℕ) → j < k
       → frame out j .head .errors ≡ errors bits (q + 384 * j) 0 + errors bits (q + 384 * j + 128) 1 + errors bits (q + 384 * j + 256) 2
+  -- and none has a move (document 02, A3: "all moves zero for its k frames")
+  pub unmoved : (j : ℕ) → j < k → frame out j .head .moves ≡ noMoves
   -- "the first one's offset is Q if no frame preceded it,
   pub first-of-all : earlier ≡ [] → frame out 0 .head .offset ≡ q
   -- else the previous offset plus 384 plus Q-P",
@@ -95,6 +100,11 @@ pub record Always (s : Synchroniser) (calls : List Call) : Type 0 where
   -- "bits pushed equal that clock plus the signed net slip plus bits pending"
   pub clock : view (stateOf s calls) .clock ≡ searched (accepted calls) start + 384 * length (handed calls)
   pub balance : pos (length (streamOf calls)) ≡ pos (view (stateOf s calls) .clock) +ℤ netSlip (view (stateOf s calls)) +ℤ pos (length (pending (view (stateOf s calls))))
+  -- document 02, A3: "the net slip equals the sum of front moves and third-segment shifts of the frames sent"; the slips followed are those that the
+  -- moves show, counted at each place; and each move lies in its range
+  pub net : netSlip (view (stateOf s calls)) ≡ netOfAll (movesGot (handed calls))
+  pub followed : slips (view (stateOf s calls)) ≡ slipsOfAll (movesGot (handed calls))
+  pub ranges : AllInRange (movesGot (handed calls))
   -- "Lock ends exactly with the third frame in a row, counted since that lock began, that has fewer than two markers": of the pushes made,
   -- which lead to this very state
   pub made : view (stateOf s calls) ≡ stateAfter (accepted calls)

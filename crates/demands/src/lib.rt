@@ -34,6 +34,7 @@ pub fn synchroniser_statements()
     sync::calls_follow_the_rules();
     sync::synchroniser_rules();
     sync_rules::gap_rule();
+    sync::moves_of_calls();
 }
 
 // Document 01's starred examples, together.

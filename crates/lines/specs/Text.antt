@@ -3,14 +3,19 @@
 use mathlib.Core.Bool.{Bool}
 use mathlib.Core.List.{List, [], _∷_, _++_}
 use Prim.Native.Nat.{ℕ}
+use lib.IntN.{ℤ}
 use Rattle.bits.specs.Bit.{tab}
 use Rattle.journal.specs.Record.{bitOf}
-use Rattle.texts.specs.Decimal.{decimal}
+use Rattle.texts.specs.Decimal.{decimal, signedDecimal}
 use Rattle.texts.specs.Text.{hexAt}
 
 -- a number behind a space
 abbrev pub spaced : ℕ → List ℕ
 spaced n = 32 ∷ decimal n
+
+-- a number with its sign behind a space
+abbrev pub spacedSigned : ℤ → List ℕ
+spacedSigned z = 32 ∷ signedDecimal z
 
 abbrev pub lineFeed : List ℕ
 lineFeed = 10 ∷ []
@@ -26,9 +31,21 @@ frameText offset matched errors = frameWords offset matched errors ++ lineFeed
 abbrev pub gapText : ℕ → ℕ → List ℕ
 gapText offset long = (103 ∷ 97 ∷ 112 ∷ []) ++ spaced offset ++ spaced long ++ lineFeed
 
+-- `end`, and the first two counts of a last line
+abbrev pub endWords : ℕ → ℕ → List ℕ
+endWords a b = (101 ∷ 110 ∷ 100 ∷ []) ++ spaced a ++ spaced b
+
 -- "the last line frames, slips, pending bits"
 abbrev pub endText : ℕ → ℕ → ℕ → List ℕ
-endText a b c = (101 ∷ 110 ∷ 100 ∷ []) ++ spaced a ++ spaced b ++ spaced c ++ lineFeed
+endText a b c = endWords a b ++ spaced c ++ lineFeed
+
+-- `slip OFFSET FRONT SECOND THIRD`
+abbrev pub slipText : ℕ → ℤ → ℤ → ℤ → List ℕ
+slipText offset front second third = (115 ∷ 108 ∷ 105 ∷ 112 ∷ []) ++ spaced offset ++ spacedSigned front ++ spacedSigned second ++ spacedSigned third ++ lineFeed
+
+-- "last line `end FRAMES SLIPS NETSLIP`"
+abbrev pub slipsEndText : ℕ → ℕ → ℤ → List ℕ
+slipsEndText frames slips net = endWords frames slips ++ spacedSigned net ++ lineFeed
 
 -- `refused` and two numbers: of a record, the refusal's number and the record's; of a frame that is no speech, its offset and the refusal's number
 abbrev pub refusedText : ℕ → ℕ → List ℕ

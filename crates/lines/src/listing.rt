@@ -3,7 +3,7 @@ ghost use mathlib.Core.Path.{_≡_};
 ghost use Prim.Native.Nat.{_≤_};
 ghost use Rattle.texts.specs.Text.{lineOf};
 ghost use Rattle.journal.specs.Record.{bitOf};
-ghost use Rattle.lines.specs.Text.{frameWords, frameText, gapText, endText, refusedText};
+ghost use Rattle.lines.specs.Text.{frameWords, frameText, gapText, endWords, endText, refusedText};
 use texts::Line;
 use texts::empty;
 use texts::with_number;
@@ -44,16 +44,24 @@ pub fn gap_line(offset: u64, length: u64) -> Line
     with_word(l3, b"\n")
 }
 
-// The last line, with its three counts.
-pub fn end_line(a: u64, b: u64, c: u64) -> Line
-    ensures { λ r. ⌜ r ≡ lineOf (endText a b c) ⌝ }
+// The last line's first two counts, with the line not yet ended.
+pub(crate) fn end_words(a: u64, b: u64) -> Line
+    ensures size { λ r. ⌜ r .size ≤ 45 ⌝ }
+    ensures text { λ r. ⌜ r ≡ lineOf (endWords a b) ⌝ }
 {
     let l0 = empty();
     let l1 = with_word(l0, b"end");
     let l2 = with_number(l1, a);
-    let l3 = with_number(l2, b);
-    let l4 = with_number(l3, c);
-    with_word(l4, b"\n")
+    with_number(l2, b)
+}
+
+// The last line, with its three counts.
+pub fn end_line(a: u64, b: u64, c: u64) -> Line
+    ensures { λ r. ⌜ r ≡ lineOf (endText a b c) ⌝ }
+{
+    let words = end_words(a, b);
+    let counts = with_number(words, c);
+    with_word(counts, b"\n")
 }
 
 // What is refused, by two numbers.

@@ -9,7 +9,7 @@ use lib.ListN.{length, getD, take, drop}
 use Rattle.bits.specs.BigEndian.{valueOf}
 use Rattle.bits.specs.Refusals.{numberOf}
 use Rattle.case_bytes.specs.Answers.{Answer, bytes, unfit, Told}
-use Rattle.case_bytes.specs.Bytes.{Put, flagByte, lastBytes}
+use Rattle.case_bytes.specs.Bytes.{Put, flagByte, lastBytes, signedByte, threeBytes}
 use Rattle.merger_rules.specs.declared.Clock.{Clock}
 use Rattle.merger_rules.specs.declared.Clock.the-variants.{Absent, At}
 use Rattle.merger.specs.declared.Merger.{Merger}
@@ -24,6 +24,7 @@ use Rattle.merger_rules.specs.Scripts.{given}
 use Rattle.merger_rules.specs.Source.{sourceRelease}
 use Rattle.merger.specs.States.{Valid}
 use Rattle.sync_rules.specs.declared.Head.{Head}
+use Rattle.sync_rules.specs.declared.Moves.{Moves}
 use Rattle.merged_cases.specs.declared.Merged.{Merged}
 use Rattle.merged_cases.specs.declared.Step.{Step}
 
@@ -55,22 +56,28 @@ pushedNumber Double = 1
 pushedNumber Late = 2
 pushedNumber (Refused r) = 100 + numberOf r
 
--- "stream, offset (8), matched, errors, number (8), yes"
+-- "moves (3)": front, second, third, each in two's complement
+abbrev pub movesIn : List ℕ → Moves
+movesIn input = record { front = signedByte (getD input 11 0); second = signedByte (getD input 12 0); third = signedByte (getD input 13 0) }
+
+-- "stream, offset (8), matched, errors, moves (3), number (8), yes"
 abbrev pub headIn : List ℕ → Head
-headIn input = record { offset = eightAt input 1; matched = eqb (getD input 9 0) 1; errors = getD input 10 0 }
+headIn input = record { offset = eightAt input 1; matched = eqb (getD input 9 0) 1; errors = getD input 10 0; moves = movesIn input }
 
 abbrev pub pushIn : List ℕ → View → PushStep
-pushIn input v = pushOf (getD input 0 0) (heldOf (headIn input) (eightAt input 11) (eqb (getD input 19 0) 1)) v
+pushIn input v = pushOf (getD input 0 0) (heldOf (headIn input) (eightAt input 14) (eqb (getD input 22 0) 1)) v
 
 abbrev pub pushCase : List ℕ → View → Case
-pushCase input v = cond (eqb (length input) 20) (case (bytes (pushedNumber (pushIn input v .answer) ∷ [])) (pushIn input v .next)) (case unfit v)
+pushCase input v = cond (eqb (length input) 23) (case (bytes (pushedNumber (pushIn input v .answer) ∷ [])) (pushIn input v .next)) (case unfit v)
 
--- ---- 17: "how many positions went until nothing was ready; for each released frame offset (8), matched, errors, number (8), 1 where it is the
--- alternate"
+-- ---- 17: "how many positions went until nothing was ready; for each released frame offset (8), matched, errors, moves (3), number (8), 1 where it
+-- is the alternate"
 
 abbrev pub releaseBytes : Release → List ℕ
 releaseBytes r =
-    lastBytes 8 (r .figures .offset) ++ (flagByte (r .figures .matched) ∷ (lastBytes 1 (r .figures .errors) ++ (lastBytes 8 (r .number) ++ (flagByte (r .alternate) ∷ []))))
+    let v = r .figures .moves in
+    lastBytes 8 (r .figures .offset)
+    ++ (flagByte (r .figures .matched) ∷ (lastBytes 1 (r .figures .errors) ++ (threeBytes (v .front) (v .second) (v .third) ++ (lastBytes 8 (r .number) ++ (flagByte (r .alternate) ∷ [])))))
 
 unfoldable pub framesBytes : List Release → List ℕ
 framesBytes [] = []

@@ -7,13 +7,15 @@ ghost use Rattle.case_bytes.specs.Bytes.{Put};
 ghost use Rattle.merger.specs.States.{viewOf};
 ghost use Rattle.merger_rules.specs.Merging.{releaseOf};
 ghost use Rattle.merger.specs.States.{PushGave, Valid};
-ghost use Rattle.merged_cases.specs.Merges.{Stepped, ToldBy, clockIf, eightAt, headIn, pushCase, pushIn, pushedNumber, releaseBytes, releaseCase, releasedBy};
+ghost use Rattle.merged_cases.specs.Merges.{Stepped, ToldBy, clockIf, eightAt, headIn, movesIn, pushCase, pushIn, pushedNumber, releaseBytes, releaseCase, releasedBy};
 use case_bytes::at;
 use case_bytes::no_case;
 use case_bytes::number;
 use case_bytes::put;
 use case_bytes::put_flag;
 use case_bytes::put_number;
+use case_bytes::put_three;
+use case_bytes::signed;
 use merger::AfterPush;
 use merger::Clock;
 use merger::Merger;
@@ -21,6 +23,7 @@ use merger::Pushed;
 use merger::Release;
 use merger::Released;
 use sync_rules::Head;
+use sync_rules::Moves;
 
 // The merger after the case, and the answer's length.
 pub struct Merged {
@@ -48,32 +51,44 @@ fn eight(input: &[u8], from: usize) -> u64
     number(&input[from..])
 }
 
+fn moves_in(input: &[u8]) -> Moves
+    ensures { λ r. ⌜ r ≡ movesIn (now (input .entry)) ⌝ }
+{
+    Moves {
+        front: signed(at(input, 11)),
+        second: signed(at(input, 12)),
+        third: signed(at(input, 13)),
+    }
+}
+
 fn head_in(input: &[u8]) -> Head
-    requires { ⌜ length (now input) ≡ 20 ⌝ }
+    requires { ⌜ length (now input) ≡ 23 ⌝ }
     ensures { λ r. ⌜ r ≡ headIn (now (input .entry)) ⌝ }
 {
+    let moves = moves_in(input);
     Head {
         offset: eight(input, 1),
         matched: at(input, 9) == 1,
         errors: bits::wide(at(input, 10)) as u32,
+        moves,
     }
 }
 
 fn pushed_in(m: Merger, input: &[u8]) -> AfterPush
-    requires { ⌜ Valid m ⌝ ∗ ⌜ length (now input) ≡ 20 ⌝ }
+    requires { ⌜ Valid m ⌝ ∗ ⌜ length (now input) ≡ 23 ⌝ }
     ensures { λ r. ⌜ PushGave m (pushIn (now (input .entry)) (viewOf m)) r ⌝ }
 {
     let head = head_in(input);
     let stream = bits::wide(at(input, 0));
-    m.push(stream, head, eight(input, 11), at(input, 19) == 1)
+    m.push(stream, head, eight(input, 14), at(input, 22) == 1)
 }
 
-// Kind 16: stream, offset, matched, errors, number, yes.
+// Kind 16: stream, offset, matched, errors, moves, number, yes.
 pub fn merger_pushed(m: Merger, input: &[u8], out: &mut [u8]) -> Merged
     requires { ⌜ Valid m ⌝ }
     ensures { λ r. ⌜ ToldBy m (pushCase (now (input .entry)) (viewOf m)) (now (out .entry)) (now (out .exit)) r ⌝ }
 {
-    if input.len() != 20 {
+    if input.len() != 23 {
         return Merged {
             size: no_case(),
             merger: m,
@@ -95,8 +110,10 @@ fn put_release(out: &mut [u8], to: usize, r: Release) -> usize
     let a = put_number(&mut *out, to, head.offset, 8);
     let b = put_flag(&mut *out, a, head.matched);
     let c = put_number(&mut *out, b, head.errors as u64, 1);
-    let d = put_number(&mut *out, c, r.number, 8);
-    put_flag(out, d, r.alternate)
+    let moves = head.moves;
+    let d = put_three(&mut *out, c, moves.front, moves.second, moves.third);
+    let e = put_number(&mut *out, d, r.number, 8);
+    put_flag(out, e, r.alternate)
 }
 
 fn clock(there: bool, offset: u64) -> Clock

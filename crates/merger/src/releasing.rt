@@ -52,12 +52,14 @@ pub(crate) fn give(m: Merger, c: Choice, freed: Freed) -> AfterRelease
     if after(last, to) {
         let n = m.n;
         let positions = m.positions;
+        let moves = f.moves;
         return AfterRelease {
             answer: Released::Frame(Release {
                 figures: Head {
                     offset: to,
                     matched: f.matched,
                     errors: f.errors,
+                    moves,
                 },
                 number: h.number,
                 alternate: other,

@@ -73,7 +73,7 @@ module _ (Taken : ℕ → Held → Type 0) where
   settle-origins : (c : Choice) (f : Freed) (ps : List Position) (last : Clock) (rs : List Release) → InChoice c → Follows last rs (settle c f ps last)
   settle-origins Neither f ps last rs t o = o
   settle-origins (Chosen h b) f ps last rs t o =
-      cond-both (Follows last rs) (isAfter last (snapped last (h .figures .offset))) _ _ (λ q. (record { frame = h; taken = t; same = refl }, q)) (λ q. q) o
+      cond-both (Follows last rs) (isAfter last (snapped last (h .figures .offset))) _ _ (λ q. (record { frame = h; taken = t; number = refl; offset = refl; matched = refl; errors = refl; moves = refl }, q)) (λ q. q) o
 
   release-origins : (s₀ s₁ : Clock) (flush : Bool) (l : List Position) (last : Clock) (rs : List Release) → All Both l → Follows last rs (releaseFrom s₀ s₁ flush l last)
   release-origins s₀ s₁ flush [] last rs a o = o

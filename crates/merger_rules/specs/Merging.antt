@@ -173,7 +173,7 @@ abbrev pub releaseStep : Released → Freed → View → ReleaseStep
 releaseStep a f v = record { answer = a; freed = f; next = v }
 
 abbrev pub releasedAs : ℕ → Held → Bool → Release
-releasedAs o h b = record { figures = record { offset = o; matched = h .figures .matched; errors = h .figures .errors }; number = h .number; alternate = b }
+releasedAs o h b = record { figures = record { offset = o; matched = h .figures .matched; errors = h .figures .errors; moves = h .figures .moves }; number = h .number; alternate = b }
 
 -- what becomes of a position that is ready, with the others and the last release
 abbrev pub settle : Choice → Freed → List Position → Clock → ReleaseStep

@@ -81,7 +81,7 @@ turn out released = record { out = out; released = released }
 abbrev pub handOn : Held → Bool → ℕ → Clock → Turn
 handOn frame alternate offset released =
     cond (isSomeAnd released (λ last. leb offset last)) (turn [] released)
-    (turn (record { figures = record { offset = offset; matched = frame .figures .matched; errors = frame .figures .errors }; number = frame .number; alternate = alternate } ∷ []) (At offset))
+    (turn (record { figures = record { offset = offset; matched = frame .figures .matched; errors = frame .figures .errors; moves = frame .figures .moves }; number = frame .number; alternate = alternate } ∷ []) (At offset))
 
 -- `match (primary, alternate)`
 abbrev pub turnOf : Place → Place → Clock → Turn

@@ -6,7 +6,7 @@ use mathlib.Core.List.{List, [], _∷_, _++_}
 use Prim.Native.Nat.{ℕ, suc, _*_}
 use lib.ListN.{length, take, drop}
 use Rattle.bits.specs.Refusals.{numberOf}
-use Rattle.case_bytes.specs.Bytes.{Put, flagByte, lastBytes, signedBytes}
+use Rattle.case_bytes.specs.Bytes.{Put, flagByte, lastBytes, signedBytes, threeBytes}
 use Rattle.sync.specs.View.{view}
 use Rattle.sync.specs.declared.Fed.{Fed}
 use Rattle.sync_steps.specs.declared.Push.{Push}
@@ -16,9 +16,9 @@ use Rattle.sync_rules.specs.State.{State, pending, slips, netSlip}
 use Rattle.sync_rules.specs.declared.Head.{Head}
 use Rattle.stream_cases.specs.declared.told.Synchronised.{Synchronised}
 
--- "for each frame offset (8), matched, errors"
+-- "for each frame offset (8), matched, errors, its three moves (1 each: front, second, third, in two's complement)"
 abbrev pub headBytes : Head → List ℕ
-headBytes h = lastBytes 8 (h .offset) ++ (flagByte (h .matched) ∷ lastBytes 1 (h .errors))
+headBytes h = lastBytes 8 (h .offset) ++ (flagByte (h .matched) ∷ (lastBytes 1 (h .errors) ++ threeBytes (h .moves .front) (h .moves .second) (h .moves .third)))
 
 -- "48 bytes and, once a soft push has been made, 384 reliabilities": slot k of the room
 abbrev pub slotBytes : Bool → List ℕ → ℕ → List ℕ

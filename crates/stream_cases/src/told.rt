@@ -12,6 +12,7 @@ use case_bytes::put_all;
 use case_bytes::put_flag;
 use case_bytes::put_number;
 use case_bytes::put_signed;
+use case_bytes::put_three;
 use sync::Fed;
 use sync::Push;
 use sync::Pushed;
@@ -54,7 +55,9 @@ fn put_head(out: &mut [u8], to: usize, head: Head) -> usize
 {
     let a = put_number(&mut *out, to, head.offset, 8);
     let b = put_flag(&mut *out, a, head.matched);
-    put_number(out, b, head.errors as u64, 1)
+    let c = put_number(&mut *out, b, head.errors as u64, 1);
+    let moves = head.moves;
+    put_three(out, c, moves.front, moves.second, moves.third)
 }
 
 // A frame's head and its slot of the room.

@@ -21,6 +21,7 @@ use Rattle.bits.specs.declared.Refusal.the-variants.{Dibit, FrameRoom, StreamEn
 use Rattle.sync_steps.specs.declared.Push.{Push}
 use Rattle.sync_steps.specs.declared.Push.the-variants.{Taken, Refused}
 use Rattle.sync_rules.specs.Matching.{errors, locksAt, inPlace}
+use Rattle.sync_rules.specs.Moves.{noMoves}
 use Rattle.sync_rules.specs.State.{State, Input, start, hard, pending, bring}
 use Rattle.sync_rules.specs.Frames.{Frame}
 use Rattle.sync_rules.specs.Pushes.{Out, search, drain, step, run}
@@ -216,7 +217,7 @@ state-append (c ∷ cs) ds s = state-append cs ds (answerOf c .next)
 -- ---- the demand
 toGots : List Figures → List Got
 toGots [] = []
-toGots (f ∷ fs) = record { head = record { offset = f .offset; matched = f .matched; errors = f .errors }; envelope = bytesOf 48 (f .bits) } ∷ toGots fs
+toGots (f ∷ fs) = record { head = record { offset = f .offset; matched = f .matched; errors = f .errors; moves = f .moves }; envelope = bytesOf 48 (f .bits) } ∷ toGots fs
 
 shown-is : (fs : List Frame) → shownAs fs ≡ toGots (figures fs)
 unfolding shownAs toGots figures
@@ -227,12 +228,12 @@ take-gots : (k : ℕ) (fs : List Figures) → take k (toGots fs) ≡ toGots (tak
 unfolding toGots
 take-gots zero fs = refl
 take-gots (suc k) [] = refl
-take-gots (suc k) (f ∷ fs) = ap (λ (l : List Got). record { head = record { offset = f .offset; matched = f .matched; errors = f .errors }; envelope = bytesOf 48 (f .bits) } ∷ l) (take-gots k fs)
+take-gots (suc k) (f ∷ fs) = ap (λ (l : List Got). record { head = record { offset = f .offset; matched = f .matched; errors = f .errors; moves = f .moves }; envelope = bytesOf 48 (f .bits) } ∷ l) (take-gots k fs)
 
 row-is : (s : List ℕ) (q o k : ℕ) → toGots (inARow s q o k) ≡ gotInARow s q o k
 unfolding toGots inARow gotInARow
 row-is s q o zero = refl
-row-is s q o (suc k) = ap (λ (l : List Got). record { head = record { offset = o; matched = true; errors = errors s q 0 + errors s (q + 128) 1 + errors s (q + 256) 2 }; envelope = bytesOf 48 (take 384 (drop q s)) } ∷ l) (row-is s (q + 384) (o + 384) k)
+row-is s q o (suc k) = ap (λ (l : List Got). record { head = record { offset = o; matched = true; errors = errors s q 0 + errors s (q + 128) 1 + errors s (q + 256) 2; moves = noMoves }; envelope = bytesOf 48 (take 384 (drop q s)) } ∷ l) (row-is s (q + 384) (o + 384) k)
 
 shown-figures : (s : List ℕ) (q o k : ℕ) (fs : List Frame) → take k (figures fs) ≡ inARow s q o k → take k (shownAs fs) ≡ gotInARow s q o k
 shown-figures s q o k fs e = ap (take k) (shown-is fs) ∙ take-gots k (figures fs) ∙ ap toGots e ∙ row-is s q o k

@@ -4,3 +4,4 @@ pub mod Signed
 pub mod Slots
 pub mod Histories
 pub mod Ends
+pub mod Moved

@@ -8,6 +8,7 @@ use lib.ListN.{length, take, drop, length-append, length-take, take-append-drop}
 use lib.Seq.{sets, sets-eq, length-sets, take-at, drop-at, length-take-le}
 use Rattle.sync_steps.specs.Steps.{headOf}
 use Rattle.sync_rules.specs.Matching.{inPlace}
+use Rattle.sync_rules.specs.Moves.{Move, Stay}
 use Rattle.sync_rules.specs.State.{State, pending, counted}
 use Rattle.sync_rules.specs.Frames.{Frame, Sent, cut, frameAt, sendAt, sendShifted, send, ready, follow, frontMove, secondShift, secondAt, thirdShift, thirdAt}
 use Rattle.sync_rules.specs.Pushes.{Out, drain}
@@ -23,17 +24,17 @@ unfolding cut
 cut-few xs p q =
     omega (arith, length-append (take 128 xs) (take 128 (drop p xs) ++ take 128 (drop q xs)), length-append (take 128 (drop p xs)) (take 128 (drop q xs)), length-take 128 xs, length-take 128 (drop p xs), length-take 128 (drop q xs))
 
-frame-few : (m : State) (p q : ℕ) → length (sendAt m p q .frame .reliabilities) ≤ 384
+frame-few : (v : Move) (m : State) (p q : ℕ) → length (sendAt v m p q .frame .reliabilities) ≤ 384
 unfolding sendAt frameAt
-frame-few m p q = cond-cases (λ (l : List ℕ). length l ≤ 384) (m .soft) (cut (drop (m .restorable) (m .reliabilities)) p q) [] (λ t. cut-few (drop (m .restorable) (m .reliabilities)) p q) (λ w. omega arith)
+frame-few v m p q = cond-cases (λ (l : List ℕ). length l ≤ 384) (m .soft) (cut (drop (m .restorable) (m .reliabilities)) p q) [] (λ t. cut-few (drop (m .restorable) (m .reliabilities)) p q) (λ w. omega arith)
 
-shifted-few : (m : State) → length (sendShifted m .frame .reliabilities) ≤ 384
+shifted-few : (v : Move) (m : State) → length (sendShifted v m .frame .reliabilities) ≤ 384
 unfolding sendShifted
-shifted-few m = frame-few (counted (thirdShift m) (counted (secondShift m) m)) (secondAt m) (thirdAt m)
+shifted-few v m = frame-few v (counted (thirdShift m) (counted (secondShift m) m)) (secondAt m) (thirdAt m)
 
 send-few : (m : State) → length (send m .frame .reliabilities) ≤ 384
 unfolding send
-send-few m = cond-cases (λ (s : Sent). length (s .frame .reliabilities) ≤ 384) (inPlace (pending m) 0) _ _ (λ t. frame-few m 128 256) (λ w. shifted-few (follow (frontMove m) m))
+send-few m = cond-cases (λ (s : Sent). length (s .frame .reliabilities) ≤ 384) (inPlace (pending m) 0) _ _ (λ t. frame-few Stay m 128 256) (λ w. shifted-few (frontMove m) (follow (frontMove m) m))
 
 pub Fit : List Frame → Type 0
 Fit [] = 0 ≤ 0

@@ -18,6 +18,7 @@ use Rattle.sync.specs.Answers.{PushedBy}
 use Rattle.sync.specs.Feeds.{FedBy}
 use Rattle.sync_steps.specs.Feeds.{fedOf}
 use Rattle.sync_rules.specs.Matching.{errors}
+use Rattle.sync_rules.specs.Moves.{noMoves}
 use Rattle.sync_rules.specs.State.{Input}
 use Rattle.sync_rules.specs.Frames.{Frame}
 use Rattle.sync_rules.specs.Room.{envelopeOf}
@@ -117,8 +118,8 @@ unfolding lastGot
 firstGot [] p q = q
 firstGot (g ∷ gs) p q = lastGot (g .head .offset) gs + 384 + (q - p)
 
--- k frames in a row, from place q of the stream on
+-- k frames in a row, from place q of the stream on, none with a move
 unfoldable pub gotInARow : List ℕ → ℕ → ℕ → ℕ → List Got
 unfolding errors
 gotInARow s q o zero = []
-gotInARow s q o (suc k) = record { head = record { offset = o; matched = true; errors = errors s q 0 + errors s (q + 128) 1 + errors s (q + 256) 2 }; envelope = envelopeOf (take 384 (drop q s)) } ∷ gotInARow s (q + 384) (o + 384) k
+gotInARow s q o (suc k) = record { head = record { offset = o; matched = true; errors = errors s q 0 + errors s (q + 128) 1 + errors s (q + 256) 2; moves = noMoves }; envelope = envelopeOf (take 384 (drop q s)) } ∷ gotInARow s (q + 384) (o + 384) k

@@ -1,18 +1,20 @@
 -- What holds of the calls: they follow the rules, and demand 3 holds of what they hand out.
 -- Assumes nothing.
 use mathlib.Core.Path.{_≡_}
-use mathlib.Core.List.{List, [], _++_}
+use mathlib.Core.List.{List, [], _∷_, _++_}
 use mathlib.Core.Bool.{true, false}
 use Prim.Native.Nat.{ℕ, _+_, _*_, _≤_, _<_, _^_}
 use lib.IntN.{pos, _+ℤ_}
 use lib.ListN.{length, take}
 use Rattle.sync.specs.declared.Synchroniser.{Synchroniser}
 use Rattle.sync.specs.View.{Valid, view}
-use Rattle.sync.specs.Calls.{Call, History, stateOf, accepted, handed, shownAs, streamOf, placeIn, BeginsAt, firstGot, gotInARow}
+use Rattle.sync.specs.Calls.{Call, History, stateOf, accepted, Got, handed, shownAs, streamOf, placeIn, BeginsAt, firstGot, gotInARow}
 use Rattle.sync_rules.specs.Matching.{locksAt, inPlace}
 use Rattle.sync_rules.specs.State.{Input, start, netSlip, streamEnd}
 use Rattle.sync_rules.specs.Pushes.{run, quiet}
 use Rattle.sync_rules.specs.Demand.{stream, FirstLock}
+use Rattle.sync_rules.specs.declared.Moves.{Moves}
+use Rattle.sync_rules.specs.Slips.{SlippedBy}
 
 -- any history of calls has the state and the frames of `run` over the pushes that were made, so that every statement of the rules is one of the calls
 pub record Follows (s : Synchroniser) (cs : List Call) : Type 0 where
@@ -57,3 +59,13 @@ pub record QuietCalls (s : Synchroniser) (cs : List Call) : Type 0 where
 
 abbrev pub quietCalls : Type 0
 quietCalls = (s : Synchroniser) → Valid s → (cs : List Call) → History s cs → length (accepted cs) ≤ quiet (view s) → QuietCalls s cs
+
+-- the moves of the frames handed out
+unfoldable pub movesGot : List Got → List Moves
+movesGot [] = []
+movesGot (g ∷ gs) = g .head .moves ∷ movesGot gs
+
+-- document 02, A3, of the calls: over any history of them the net slip and the slips followed rise by the moves of the frames handed out, and each move
+-- lies in its range
+abbrev pub moveCalls : Type 0
+moveCalls = (s : Synchroniser) → Valid s → (cs : List Call) → History s cs → SlippedBy (view s) (view (stateOf s cs)) (movesGot (handed cs))

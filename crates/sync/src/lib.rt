@@ -13,7 +13,7 @@ ghost use Rattle.sync.specs.Feeds.{FedBy, fedOf, hardly, softly, unpacke
 ghost use Rattle.sync_rules.specs.State.{start, hard, pending, slips, netSlip, streamEnd};
 ghost use Rattle.sync_rules.specs.Pushes.{quiet};
 ghost use Rattle.sync_rules.specs.Demand.{demand3};
-ghost use Rattle.sync.specs.Statements.{callsFollow, demandCalls, endCalls, quietCalls};
+ghost use Rattle.sync.specs.Statements.{callsFollow, demandCalls, endCalls, quietCalls, moveCalls};
 ghost use Rattle.sync_rules.specs.Statements.{rules};
 use sync_rules::Head;
 use sync_steps::Drained;
@@ -359,4 +359,9 @@ pub fn end_of_calls()
 // Calls that make no more pushes than `quiet_dibits` says hand out no frame and leave the settled offset.
 pub fn quiet_calls()
     ensures { λ _. ⌜ quietCalls ⌝ }
+{}
+
+// The net slip rises by the front moves and third shifts of the frames that any history of calls hands out.
+pub fn moves_of_calls()
+    ensures { λ _. ⌜ moveCalls ⌝ }
 {}

@@ -10,6 +10,7 @@ use borrow.Author.Tests.{leb-true, leb-false}
 use lib.Dec.{leb}
 use lib.ListN.{length, take, drop, length-append}
 use Rattle.sync_rules.specs.Matching.{errors, inPlace, locksAt}
+use Rattle.sync_rules.specs.Moves.{Stay, noMoves}
 use Rattle.sync_rules.specs.State.{State, Input, start, bring}
 use Rattle.sync_rules.specs.Frames.{Frame, Sent, sendAt, send, ready}
 use Rattle.sync_rules.specs.Pushes.{Out, search, drain, step, run}
@@ -25,7 +26,7 @@ use Rattle.sync_rules.proofs.Rides.{Hunting, Riding, Brought, brings, s
 pub figures-append : (fs gs : List Frame) → figures (fs ++ gs) ≡ figures fs ++ figures gs
 unfolding figures
 figures-append [] gs = refl
-figures-append (f ∷ fs) gs = ap (λ (l : List Figures). record { offset = f .offset; matched = f .matched; errors = f .errors; bits = f .bits } ∷ l) (figures-append fs gs)
+figures-append (f ∷ fs) gs = ap (λ (l : List Figures). record { offset = f .offset; matched = f .matched; errors = f .errors; moves = f .moves; bits = f .bits } ∷ l) (figures-append fs gs)
 
 abbrev more : ℕ → Sent → Out
 more n s = record { sent = s .frame ∷ drain n (s .next) .sent; next = drain n (s .next) .next }
@@ -69,17 +70,17 @@ drained n zero H X m a c B r h row fits later = refl
 drained zero (suc k) H X m a c B r h row fits later = later (suc k) a c r (omega arith) row fits
 drained (suc n) (suc k) H X m a c B r h row fits later =
     way (leb (a + 384) (length H)) refl
-    (λ e. drained n k H X (sendAt m 128 256 .next) (a + 384) (c + 384) B (rides-on H X m a c r e (row-first (H ++ X) a k row)) (omega arith) (row-rest (H ++ X) a k row) (omega arith))
+    (λ e. drained n k H X (sendAt Stay m 128 256 .next) (a + 384) (c + 384) B (rides-on H X m a c r e (row-first (H ++ X) a k row)) (omega arith) (row-rest (H ++ X) a k row) (omega arith))
     later
   where
     way : (b : Bool) → leb (a + 384) (length H) ≡ b
-        → (a + 384 ≤ length H → Later H (H ++ X) B (drain n (sendAt m 128 256 .next) .next) → take k (figures (drain n (sendAt m 128 256 .next) .sent) ++ B) ≡ inARow (H ++ X) (a + 384) (c + 384) k)
+        → (a + 384 ≤ length H → Later H (H ++ X) B (drain n (sendAt Stay m 128 256 .next) .next) → take k (figures (drain n (sendAt Stay m 128 256 .next) .sent) ++ B) ≡ inARow (H ++ X) (a + 384) (c + 384) k)
         → Ends H (H ++ X) B a c (suc k) (drain (suc n) m)
     way true e go =
         let en = leb-true (a + 384) (length H) e in
         let good = row-first (H ++ X) a k row in
         subst (λ (o : Out). Ends H (H ++ X) B a c (suc k) o) (sym (drain-one n m (goes H X m a c r en good) ∙ ap (more n) (as-is H X m a c r en good)))
-        (λ on. ap (λ (l : List Figures). l ++ take k (figures (drain n (sendAt m 128 256 .next) .sent) ++ B)) (shown H X m a c r en good) ∙ ap (λ (l : List Figures). record { offset = c; matched = true; errors = errors (H ++ X) a 0 + errors (H ++ X) (a + 128) 1 + errors (H ++ X) (a + 256) 2; bits = take 384 (drop a (H ++ X)) } ∷ l) (go en on))
+        (λ on. ap (λ (l : List Figures). l ++ take k (figures (drain n (sendAt Stay m 128 256 .next) .sent) ++ B)) (shown H X m a c r en good) ∙ ap (λ (l : List Figures). record { offset = c; matched = true; errors = errors (H ++ X) a 0 + errors (H ++ X) (a + 128) 1 + errors (H ++ X) (a + 256) 2; moves = noMoves; bits = take 384 (drop a (H ++ X)) } ∷ l) (go en on))
     way false e go =
         let w = leb-false (a + 384) (length H) e in
         subst (λ (o : Out). Ends H (H ++ X) B a c (suc k) o) (sym (drain-none (suc n) m (waits H X m a c r w))) (λ on. on (suc k) a c r w row fits)

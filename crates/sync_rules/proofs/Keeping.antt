@@ -130,9 +130,9 @@ module _ (m : State) where
   abbrev third : Bool
   third = matches (pending m) (thirdAt m) 2
 
-  says : sendShifted m .frame .matched ≡ twoOf (matches (pending m) 0 0) second third
+  says : (o : Move) → sendShifted o m .frame .matched ≡ twoOf (matches (pending m) 0 0) second third
   unfolding sendShifted sendAt frameAt counted
-  says = refl
+  says o = refl
 
   third-found : secondShift m ≡ Stay → matches (pending m) 256 2 ≡ true → third ≡ true
   unfolding thirdShift moved
@@ -140,10 +140,10 @@ module _ (m : State) where
       subst (λ (v : Move). matches (pending m) (moved (moveTo (pending m) (moved v 128 + 128) 2) (moved v 128 + 128)) 2 ≡ true) (sym e) (hits (pending m) 256 2 t (λ w. w .0))
 
   -- its front in place
-  stay-shows : shows (pending m) 0 ≡ true → sendShifted m .frame .matched ≡ true
+  stay-shows : (o : Move) → shows (pending m) 0 ≡ true → sendShifted o m .frame .matched ≡ true
   unfolding shows secondShift
-  stay-shows e =
-      says
+  stay-shows o e =
+      says o
       ∙ two-again (matches (pending m) 0 0) (matches (pending m) 128 1) (matches (pending m) 256 2) second third e
       (λ t. hits (pending m) 128 1 t (λ w. w .0))
       (λ t. third-found (stays (pending m) 128 1 t))
@@ -154,39 +154,39 @@ module _ (m : State) where
       go (inr w) u = inr (third-found (w .0) u)
 
   -- its front and its second segment found
-  both-show : matches (pending m) 0 0 ≡ true → second ≡ true → sendShifted m .frame .matched ≡ true
+  both-show : (o : Move) → matches (pending m) 0 0 ≡ true → second ≡ true → sendShifted o m .frame .matched ≡ true
   unfolding twoOf
-  both-show t u = says ∙ ap₂ (λ (a b : Bool). twoOf a b third) t u
+  both-show o t u = says o ∙ ap₂ (λ (a b : Bool). twoOf a b third) t u
 
 module _ (m : State) (shown : shows (pending m) 0 ≡ true) where
   behind : matches (pending m) 0 0 ≡ false → matches (pending m) 128 1 ≡ true
   unfolding shows
   behind w = two-behind (matches (pending m) 0 0) (matches (pending m) 128 1) (matches (pending m) 256 2) shown w
 
-  later-shows : matches (pending m) 0 0 ≡ false → matches (pending m) 2 0 ≡ true → sendShifted (counted Later (pass 2 m)) .frame .matched ≡ true
+  later-shows : matches (pending m) 0 0 ≡ false → matches (pending m) 2 0 ≡ true → sendShifted Later (counted Later (pass 2 m)) .frame .matched ≡ true
   unfolding counted secondShift
   later-shows w t =
       let e : pending (pass 2 m) ≡ drop 2 (pending m) = pass-pending 2 m in
       let u : matches (pending (pass 2 m)) 0 0 ≡ true = ap (λ (l : List ℕ). matches l 0 0) e ∙ matches-behind (pending m) 2 0 0 2 refl ∙ t in
       let v : matches (pending (pass 2 m)) 126 1 ≡ true = ap (λ (l : List ℕ). matches l 126 1) e ∙ matches-behind (pending m) 2 126 1 128 refl ∙ behind w in
-      both-show (counted Later (pass 2 m)) u (hits (pending (pass 2 m)) 128 1 v (λ n. n .2))
+      both-show (counted Later (pass 2 m)) Later u (hits (pending (pass 2 m)) 128 1 v (λ n. n .2))
 
-  earlier-shows : matches (pending m) 0 0 ≡ false → m .restorable ≡ 2 → matches (m .held) 0 0 ≡ true → sendShifted (counted Earlier (restore m)) .frame .matched ≡ true
+  earlier-shows : matches (pending m) 0 0 ≡ false → m .restorable ≡ 2 → matches (m .held) 0 0 ≡ true → sendShifted Earlier (counted Earlier (restore m)) .frame .matched ≡ true
   unfolding counted restore secondShift
   earlier-shows w two t =
       let v : matches (m .held) 130 1 ≡ true = sym (matches-behind (m .held) (m .restorable) 128 1 130 (omega arith)) ∙ behind w in
-      both-show (counted Earlier (restore m)) t (hits (m .held) 128 1 v (λ n. n .1))
+      both-show (counted Earlier (restore m)) Earlier t (hits (m .held) 128 1 v (λ n. n .1))
 
-  front-shows : sendShifted (follow (frontMove m) m) .frame .matched ≡ true
+  front-shows : sendShifted (frontMove m) (follow (frontMove m) m) .frame .matched ≡ true
   unfolding frontMove follow
   front-shows =
-      cond-cases (λ (v : Move). sendShifted (follow v m) .frame .matched ≡ true) (matches (pending m) 0 0) Stay _ (λ t. stay-shows m shown)
-      (λ w. cond-cases (λ (v : Move). sendShifted (follow v m) .frame .matched ≡ true) (matches (pending m) 2 0) Later _ (later-shows w)
-      (λ v. cond-cases (λ (v : Move). sendShifted (follow v m) .frame .matched ≡ true) (eqb (m .restorable) 2 && matches (m .held) 0 0) Earlier Stay
+      cond-cases (λ (v : Move). sendShifted v (follow v m) .frame .matched ≡ true) (matches (pending m) 0 0) Stay _ (λ t. stay-shows m Stay shown)
+      (λ w. cond-cases (λ (v : Move). sendShifted v (follow v m) .frame .matched ≡ true) (matches (pending m) 2 0) Later _ (later-shows w)
+      (λ v. cond-cases (λ (v : Move). sendShifted v (follow v m) .frame .matched ≡ true) (eqb (m .restorable) 2 && matches (m .held) 0 0) Earlier Stay
       (λ t. let b = both-true (eqb (m .restorable) 2) (matches (m .held) 0 0) t in earlier-shows w (eqb-true (m .restorable) 2 (b .0)) (b .1))
-      (λ u. stay-shows m shown)))
+      (λ u. stay-shows m Stay shown)))
 
-  in-place-shows : sendAt m 128 256 .frame .matched ≡ true
+  in-place-shows : sendAt Stay m 128 256 .frame .matched ≡ true
   unfolding sendAt frameAt shows
   in-place-shows = shown
 
@@ -200,13 +200,13 @@ record Leaves (m : State) (s : Sent) : Type 0 where
   one : s .next .failures ≤ m .failures + 1
   locked : m .failures ≤ 1 → s .next .locked ≡ true
 
-at-leaves : (m n : State) (p q : ℕ) → n .failures ≡ m .failures → Leaves m (sendAt n p q)
+at-leaves : (v : Move) (m n : State) (p q : ℕ) → n .failures ≡ m .failures → Leaves m (sendAt v n p q)
 unfolding sendAt leave
-at-leaves m n p q e =
+at-leaves v m n p q e =
     record {
-      good = λ t. (ap (λ (b : Bool). cond b 0 (n .failures + 1)) t, sym (cond-yes (frameAt n p q .matched) (frameAt n p q .matched) true _ refl t));
-      one = cond-cases (λ (k : ℕ). k ≤ m .failures + 1) (frameAt n p q .matched) 0 (n .failures + 1) (λ t. omega arith) (λ w. omega arith);
-      locked = λ h. cond-cases (λ (b : Bool). b ≡ true) (frameAt n p q .matched) true _ (λ t. refl) (λ w. lt-ltb (n .failures + 1) _ (omega arith));
+      good = λ t. (ap (λ (b : Bool). cond b 0 (n .failures + 1)) t, sym (cond-yes (frameAt v n p q .matched) (frameAt v n p q .matched) true _ refl t));
+      one = cond-cases (λ (k : ℕ). k ≤ m .failures + 1) (frameAt v n p q .matched) 0 (n .failures + 1) (λ t. omega arith) (λ w. omega arith);
+      locked = λ h. cond-cases (λ (b : Bool). b ≡ true) (frameAt v n p q .matched) true _ (λ t. refl) (λ w. lt-ltb (n .failures + 1) _ (omega arith));
     }
 
 front-failures : (v : Move) (m : State) → follow v m .failures ≡ m .failures
@@ -218,8 +218,8 @@ front-failures Earlier m = refl
 leaves : (m : State) → Leaves m (send m)
 unfolding send sendShifted counted
 leaves m =
-    cond-cases (Leaves m) (inPlace (pending m) 0) _ _ (λ t. at-leaves m m 128 256 refl)
-    (λ w. let n = follow (frontMove m) m in at-leaves m (counted (thirdShift n) (counted (secondShift n) n)) (secondAt n) (thirdAt n) (front-failures (frontMove m) m))
+    cond-cases (Leaves m) (inPlace (pending m) 0) _ _ (λ t. at-leaves Stay m m 128 256 refl)
+    (λ w. let n = follow (frontMove m) m in at-leaves (frontMove m) m (counted (thirdShift n) (counted (secondShift n) n)) (secondAt n) (thirdAt n) (front-failures (frontMove m) m))
 
 -- ---- pushes
 keeps : (n : ℕ) (m : State) → m .locked ≡ true → m .failures + n ≤ 2 → drain n m .next .locked ≡ true

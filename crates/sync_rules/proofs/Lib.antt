@@ -8,5 +8,7 @@ pub mod Demands
 pub mod Keeping
 pub mod Reaching
 pub mod Offsets
+pub mod Signed
+pub mod Slipped
 pub mod Accounts
 pub mod Stillness

@@ -80,12 +80,12 @@ module _ (H : List ℕ) (m : State) (l : Lies H (m .held) (m .restorable)) where
   front-here : Fronts H m (l .from + m .restorable) m
   front-here = record { like = like-same m; lies = l; near = (omega arith, omega arith); balance = λ e. e }
 
-  front-on : l .from + m .restorable + 2 ≤ length H → Fronts H m (l .from + m .restorable) (counted Later (pass 2 m))
-  unfolding counted laters earliers pass lies-pass
+  front-on : l .from + m .restorable + 2 ≤ length H → Fronts H m (l .from + m .restorable) (follow Later m)
+  unfolding follow counted laters earliers pass lies-pass
   front-on f = record { like = record { clock = refl; frames = refl; synchronised = refl; failures = refl; locked = refl; soft = refl }; lies = lies-pass H (m .held) (m .restorable) 2 l f; near = (omega arith, omega arith); balance = λ e. omega arith }
 
-  front-back : m .restorable ≡ 2 → Fronts H m (l .from + m .restorable) (counted Earlier (restore m))
-  unfolding counted laters earliers restore lies-restore
+  front-back : m .restorable ≡ 2 → Fronts H m (l .from + m .restorable) (follow Earlier m)
+  unfolding follow counted laters earliers restore lies-restore
   front-back two = let o = l .restorable in record { like = record { clock = refl; frames = refl; synchronised = refl; failures = refl; locked = refl; soft = refl }; lies = lies-restore H (m .held) (m .restorable) l; near = (omega arith, omega arith); balance = λ e. omega arith }
 
   pub fronts : l .from + m .restorable + 2 ≤ length H → Fronts H m (l .from + m .restorable) (follow (frontMove m) m)
@@ -121,29 +121,29 @@ pub record Sends (H : List ℕ) (m : State) (a : ℕ) (s : Sent) : Type 0 where
   pub failures : s .next .failures ≡ cond (s .frame .matched) 0 (m .failures + 1)
   pub locked : s .next .locked ≡ cond (s .frame .matched) true (ltb (m .failures + 1) 3)
 
-sends-at : (H : List ℕ) (m : State) (a : ℕ) (n : State) → Like m n → (l : Lies H (n .held) (n .restorable)) → a ≤ l .from + n .restorable + 2 → (p q : ℕ) → (Bal a m → l .from + n .restorable + (q + 128) + 2 * n .earlier ≡ n .clock + 384 + 2 * n .later)
-    → 252 ≤ q → l .from + n .restorable + (q + 128) ≤ length H → Sends H m a (sendAt n p q)
+sends-at : (H : List ℕ) (m : State) (a : ℕ) (n : State) → Like m n → (l : Lies H (n .held) (n .restorable)) → a ≤ l .from + n .restorable + 2 → (w : Move) (p q : ℕ) → (Bal a m → l .from + n .restorable + (q + 128) + 2 * n .earlier ≡ n .clock + 384 + 2 * n .later)
+    → 252 ≤ q → l .from + n .restorable + (q + 128) ≤ length H → Sends H m a (sendAt w n p q)
 unfolding sendAt leave pass frameAt lies-pass
-sends-at H m a n k l h p q e g f =
+sends-at H m a n k l h w p q e g f =
     record {
       lies = lies-pass H (n .held) (n .restorable) _ l (omega (arith, f));
       far = omega arith;
-      balance = λ w. omega (arith, e w);
+      balance = λ b. omega (arith, e b);
       offset = k .clock;
       clock = ap (λ (z : ℕ). z + 384) (k .clock);
       frames = ap (λ (z : ℕ). z + 1) (k .frames);
       soft = k .soft;
-      failures = ap (λ (z : ℕ). cond (frameAt n p q .matched) 0 (z + 1)) (k .failures);
-      locked = ap (λ (z : ℕ). cond (frameAt n p q .matched) true (ltb (z + 1) 3)) (k .failures);
+      failures = ap (λ (z : ℕ). cond (frameAt w n p q .matched) 0 (z + 1)) (k .failures);
+      locked = ap (λ (z : ℕ). cond (frameAt w n p q .matched) true (ltb (z + 1) 3)) (k .failures);
     }
 
 like-counted : (m n : State) (v : Move) → Like m n → Like m (counted v n)
 unfolding counted
 like-counted m n v k = record { clock = k .clock; frames = k .frames; synchronised = k .synchronised; failures = k .failures; locked = k .locked; soft = k .soft }
 
-sends-shifted : (H : List ℕ) (m : State) (a : ℕ) (n : State) → Fronts H m a n → a + 390 ≤ length H → Sends H m a (sendShifted n)
+sends-shifted : (H : List ℕ) (m : State) (a : ℕ) (n : State) (o : Move) → Fronts H m a n → a + 390 ≤ length H → Sends H m a (sendShifted o n)
 unfolding sendShifted counted
-sends-shifted H m a n r f =
+sends-shifted H m a n o r f =
     let v = secondShift n in
     let w = thirdShift n in
     let p = secondAt n in
@@ -153,7 +153,7 @@ sends-shifted H m a n r f =
     let eq = moved-by w (p + 128) (omega arith) in
     let fq = moves-few w in
     let n1 = r .near .0 in
-    sends-at H m a (counted w (counted v n)) (like-counted m (counted v n) w (like-counted m n v (r .like))) (r .lies) (r .near .1) p q (λ e. omega (arith, r .balance e)) (omega arith) (omega arith)
+    sends-at H m a (counted w (counted v n)) (like-counted m (counted v n) w (like-counted m n v (r .like))) (r .lies) (r .near .1) o p q (λ e. omega (arith, r .balance e)) (omega arith) (omega arith)
 
 -- ready: a lock, 384 bits pending, and 392 of a frame that is not in place
 pub record IsReady (m : State) : Type 0 where
@@ -198,9 +198,9 @@ sends H m l r =
     let n : length (pending m) ≡ length H - (l .from + m .restorable) = lies-length H (m .held) (m .restorable) l in
     let a = l .from + m .restorable in
     let e = r .enough in
-    cond-cases (λ s. Sends H m a s) (inPlace (pending m) 0) (sendAt m 128 256) (sendShifted (follow (frontMove m) m))
-    (λ t. sends-at H m a m (like-same m) l (omega arith) 128 256 (λ e. omega arith) (omega arith) (omega arith))
-    (λ w. let g : 392 ≤ length (pending m) = r .more w in sends-shifted H m a (follow (frontMove m) m) (fronts H m l (omega arith)) (omega arith))
+    cond-cases (λ s. Sends H m a s) (inPlace (pending m) 0) (sendAt Stay m 128 256) (sendShifted (frontMove m) (follow (frontMove m) m))
+    (λ t. sends-at H m a m (like-same m) l (omega arith) Stay 128 256 (λ e. omega arith) (omega arith) (omega arith))
+    (λ w. let g : 392 ≤ length (pending m) = r .more w in sends-shifted H m a (follow (frontMove m) m) (frontMove m) (fronts H m l (omega arith)) (omega arith))
 
 -- ---- what is held only shrinks once a push has brought its bits
 pass-less : (k : ℕ) (m : State) → length (pass k m .held) ≤ length (m .held)
@@ -216,17 +216,17 @@ follow-less Earlier m = omega arith
 front-less : (m : State) → length (follow (frontMove m) m .held) ≤ length (m .held)
 front-less m = follow-less (frontMove m) m
 
-at-less : (m : State) (p q : ℕ) → length (sendAt m p q .next .held) ≤ length (m .held)
+at-less : (v : Move) (m : State) (p q : ℕ) → length (sendAt v m p q .next .held) ≤ length (m .held)
 unfolding sendAt leave
-at-less m p q = pass-less _ m
+at-less v m p q = pass-less _ m
 
-shifted-less : (m : State) → length (sendShifted m .next .held) ≤ length (m .held)
+shifted-less : (v : Move) (m : State) → length (sendShifted v m .next .held) ≤ length (m .held)
 unfolding sendShifted counted
-shifted-less m = at-less (counted (thirdShift m) (counted (secondShift m) m)) (secondAt m) (thirdAt m)
+shifted-less v m = at-less v (counted (thirdShift m) (counted (secondShift m) m)) (secondAt m) (thirdAt m)
 
 send-less : (m : State) → length (send m .next .held) ≤ length (m .held)
 unfolding send
-send-less m = cond-cases (λ (s : Sent). length (s .next .held) ≤ length (m .held)) (inPlace (pending m) 0) _ _ (λ t. at-less m 128 256) (λ w. omega (arith, shifted-less (follow (frontMove m) m), front-less m))
+send-less m = cond-cases (λ (s : Sent). length (s .next .held) ≤ length (m .held)) (inPlace (pending m) 0) _ _ (λ t. at-less Stay m 128 256) (λ w. omega (arith, shifted-less (frontMove m) (follow (frontMove m) m), front-less m))
 
 pub drain-less : (n : ℕ) (m : State) → length (drain n m .next .held) ≤ length (m .held)
 unfolding drain

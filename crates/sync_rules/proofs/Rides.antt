@@ -9,6 +9,7 @@ use borrow.Author.Tests.{lt-ltb, le-ltb, le-leb, lt-leb}
 use lib.Dec.{leb, ltb}
 use lib.ListN.{length, take, drop, length-drop, length-append}
 use Rattle.sync_rules.specs.Matching.{twoOf, matches, errors, inPlace, locksAt, firstOf}
+use Rattle.sync_rules.specs.Moves.{Stay, noMoves}
 use Rattle.sync_rules.specs.State.{State, Input, pending, pass, bring}
 use Rattle.sync_rules.specs.Frames.{frameAt, leave, sendAt, send, ready}
 use Rattle.sync_rules.specs.Pushes.{Out, tries, searchAt, search, drain}
@@ -139,7 +140,7 @@ module _ (H X : List ℕ) (m : State) (p c q : ℕ) (b : Brought H m p c q)
 
 -- ---- frames in place
 frame-like : ℕ → Bool → ℕ → List ℕ → Figures
-frame-like o t w l = record { offset = o; matched = t; errors = w; bits = l }
+frame-like o t w l = record { offset = o; matched = t; errors = w; moves = noMoves; bits = l }
 
 frame-likes : (o o′ : ℕ) (t t′ : Bool) (w w′ : ℕ) (l l′ : List ℕ) → o ≡ o′ → t ≡ t′ → w ≡ w′ → l ≡ l′ → frame-like o t w l ≡ frame-like o′ t′ w′ l′
 frame-likes o o′ t t′ w w′ l l′ a b c d = cc
@@ -188,15 +189,15 @@ module _ (H X : List ℕ) (m : State) (a c : ℕ) (r : Riding H m a c) where
         all : (x y z w : Bool) → x ≡ true → y ≡ true → z ≡ true → (x && (y && (z || w))) ≡ true
         all x y z w p q s = ap₂ (λ (i j : Bool). i && (j && (z || w))) p q ∙ ap (λ (i : Bool). i || w) s
 
-    pub as-is : send m ≡ sendAt m 128 256
+    pub as-is : send m ≡ sendAt Stay m 128 256
     unfolding send
-    as-is = sym (cond-yes (inPlace (pending m) 0) (inPlace (pending m) 0) (sendAt m 128 256) _ refl placed)
+    as-is = sym (cond-yes (inPlace (pending m) 0) (inPlace (pending m) 0) (sendAt Stay m 128 256) _ refl placed)
 
-    matched : frameAt m 128 256 .matched ≡ true
+    matched : frameAt Stay m 128 256 .matched ≡ true
     unfolding frameAt inPlace
     matched = two-of-all (matches (pending m) 0 0) (matches (pending m) 128 1) (matches (pending m) 256 2) placed
 
-    pub shown : figures (sendAt m 128 256 .frame ∷ []) ≡ record { offset = c; matched = true; errors = errors (H ++ X) a 0 + errors (H ++ X) (a + 128) 1 + errors (H ++ X) (a + 256) 2; bits = take 384 (drop a (H ++ X)) } ∷ []
+    pub shown : figures (sendAt Stay m 128 256 .frame ∷ []) ≡ record { offset = c; matched = true; errors = errors (H ++ X) a 0 + errors (H ++ X) (a + 128) 1 + errors (H ++ X) (a + 256) 2; moves = noMoves; bits = take 384 (drop a (H ++ X)) } ∷ []
     unfolding figures sendAt frameAt frame-like
     shown =
         ap (λ (f : Figures). f ∷ [])
@@ -207,7 +208,7 @@ module _ (H X : List ℕ) (m : State) (a c : ℕ) (r : Riding H m a c) where
         wrongs : (k i b : ℕ) → i ≡ 0 + i → b ≡ a + i → i ≤ 256 → errors (pending m) i k ≡ errors (H ++ X) b k
         wrongs k i b ei eb h = ap (λ (z : List ℕ). errors z i k) lain ∙ same-errors (drop a H) 0 (H ++ X) a alike i i b k ei eb h
 
-    pub rides-on : Riding H (sendAt m 128 256 .next) (a + 384) (c + 384)
+    pub rides-on : Riding H (sendAt Stay m 128 256 .next) (a + 384) (c + 384)
     unfolding sendAt leave pass lies-pass
     rides-on =
         let e = r .here in

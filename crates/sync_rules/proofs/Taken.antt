@@ -16,17 +16,17 @@ follow-taken Stay m = refl
 follow-taken Later m = refl
 follow-taken Earlier m = refl
 
-at-taken : (m : State) (p q : ℕ) → sendAt m p q .next .taken ≡ m .taken
+at-taken : (v : Move) (m : State) (p q : ℕ) → sendAt v m p q .next .taken ≡ m .taken
 unfolding sendAt leave
-at-taken m p q = refl
+at-taken v m p q = refl
 
-shifted-taken : (m : State) → sendShifted m .next .taken ≡ m .taken
+shifted-taken : (v : Move) (m : State) → sendShifted v m .next .taken ≡ m .taken
 unfolding sendShifted sendAt leave counted
-shifted-taken m = refl
+shifted-taken v m = refl
 
 send-taken : (m : State) → send m .next .taken ≡ m .taken
 unfolding send
-send-taken m = cond-cases (λ (s : Sent). s .next .taken ≡ m .taken) (inPlace (pending m) 0) _ _ (λ t. at-taken m 128 256) (λ w. shifted-taken (follow (frontMove m) m) ∙ follow-taken (frontMove m) m)
+send-taken m = cond-cases (λ (s : Sent). s .next .taken ≡ m .taken) (inPlace (pending m) 0) _ _ (λ t. at-taken Stay m 128 256) (λ w. shifted-taken (frontMove m) (follow (frontMove m) m) ∙ follow-taken (frontMove m) m)
 
 drain-taken : (n : ℕ) (m : State) → drain n m .next .taken ≡ m .taken
 unfolding drain

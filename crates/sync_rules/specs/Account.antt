@@ -1,9 +1,14 @@
--- Where every bit of the stream went, up to the first pending one: a search passed it, a frame shows it, or a followed slip skipped it.
+-- Where every bit of the stream went, up to the first pending one: a search passed it, a frame shows it, or a followed slip skipped it; and where each
+-- frame's bits stand in the stream, by its offset and its moves.
 -- Assumes nothing.
 use mathlib.Core.Path.{_≡_}
 use mathlib.Core.List.{List, [], _∷_, _++_}
-use Prim.Native.Nat.{ℕ, _+_, _-_}
-use lib.ListN.{take, drop}
+use mathlib.Core.Bool.{true}
+use Prim.Native.Nat.{ℕ, _+_, _≤_}
+use lib.IntN.{pos, _+ℤ_}
+use lib.ListN.{length, take, drop}
+use Rattle.sync_rules.specs.Matching.{inPlace}
+use Rattle.sync_rules.specs.Moves.{noMoves}
 use Rattle.sync_rules.specs.State.{Input, start}
 use Rattle.sync_rules.specs.Frames.{Frame}
 use Rattle.sync_rules.specs.Demand.{stream, placeOf, sentBy}
@@ -12,62 +17,47 @@ use Rattle.sync_rules.specs.Counts.{stateAfter, searched}
 -- one piece of the way through the stream
 pub data Piece : Type 0 where
   Passed : ℕ → Piece  -- so many bits, passed in a search
-  Segment : Piece  -- 128 bits, a segment of a frame
-  Skip : Piece  -- two bits, skipped to follow a slip to a later symbol
-  Back : Piece  -- two bits back, to follow a slip to an earlier symbol
+  Shown : Frame → Piece  -- the three segments of a frame
 
--- the place that pieces lead to from place a, each beginning where the one before ended
-unfoldable pub reach : ℕ → List Piece → ℕ
-reach a [] = a
-reach a (Passed n ∷ ps) = reach (a + n) ps
-reach a (Segment ∷ ps) = reach (a + 128) ps
-reach a (Skip ∷ ps) = reach (a + 2) ps
-reach a (Back ∷ ps) = reach (a - 2) ps
+-- Where the frame f stands in the stream s that was due at place a: its three segments of 128 bits begin where its moves say, and the way goes on at b,
+-- behind the last of them. A move of 2 skips two bits that nothing shows, one of -2 shows two bits again.
+pub record Stands (s : List ℕ) (a : ℕ) (f : Frame) (b : ℕ) : Type 0 where
+  pub first : ℕ
+  pub second : ℕ
+  pub third : ℕ
+  pub front-moved : pos first ≡ pos a +ℤ f .moves .front
+  pub second-moved : pos second ≡ pos (first + 128) +ℤ f .moves .second
+  pub third-moved : pos third ≡ pos (first + 256) +ℤ f .moves .third
+  pub bits : f .bits ≡ take 128 (drop first s) ++ (take 128 (drop second s) ++ take 128 (drop third s))
+  pub end : b ≡ third + 128
+  pub arrived : b ≤ length s
+  -- "A frame sent in place has three zeros"
+  pub in-place : inPlace s a ≡ true → f .moves ≡ noMoves
 
--- the bits of their segments, in the stream s
-unfoldable pub shown : List ℕ → ℕ → List Piece → List ℕ
-shown s a [] = []
-shown s a (Passed n ∷ ps) = shown s (a + n) ps
-shown s a (Segment ∷ ps) = take 128 (drop a s) ++ shown s (a + 128) ps
-shown s a (Skip ∷ ps) = shown s (a + 2) ps
-shown s a (Back ∷ ps) = shown s (a - 2) ps
+-- The way leads from place a, where the clock shows o, to place b, where it shows c: each piece begins where the one before ended. The clock is a frame's
+-- offset; it counts the bits passed and 384 a frame, whatever its moves are.
+unfoldable pub Leads : List ℕ → ℕ → ℕ → List Piece → ℕ → ℕ → Type 0
+Leads s a o [] b c = (a ≡ b) × (o ≡ c)
+Leads s a o (Passed n ∷ ps) b c = Leads s (a + n) (o + n) ps b c
+Leads s a o (Shown f ∷ ps) b c = (e : ℕ) × Stands s a f e × (f .offset ≡ o) × Leads s e (o + 384) ps b c
 
--- bits passed, slips to later symbols and to earlier ones
+unfoldable pub framesIn : List Piece → List Frame
+framesIn [] = []
+framesIn (Passed n ∷ ps) = framesIn ps
+framesIn (Shown f ∷ ps) = f ∷ framesIn ps
+
 unfoldable pub passed : List Piece → ℕ
 passed [] = 0
 passed (Passed n ∷ ps) = n + passed ps
-passed (Segment ∷ ps) = passed ps
-passed (Skip ∷ ps) = passed ps
-passed (Back ∷ ps) = passed ps
+passed (Shown f ∷ ps) = passed ps
 
-unfoldable pub skips : List Piece → ℕ
-skips [] = 0
-skips (Passed n ∷ ps) = skips ps
-skips (Segment ∷ ps) = skips ps
-skips (Skip ∷ ps) = 1 + skips ps
-skips (Back ∷ ps) = skips ps
-
-unfoldable pub backs : List Piece → ℕ
-backs [] = 0
-backs (Passed n ∷ ps) = backs ps
-backs (Segment ∷ ps) = backs ps
-backs (Skip ∷ ps) = backs ps
-backs (Back ∷ ps) = 1 + backs ps
-
--- the bits of frames, one after the other
-unfoldable pub bitsOfAll : List Frame → List ℕ
-bitsOfAll [] = []
-bitsOfAll (f ∷ fs) = f .bits ++ bitsOfAll fs
-
--- The way through the stream up to its first pending bit. Its segments are the frames' bits, what it passed is what searches passed (and is seen as
--- gaps between offsets), and the slip figures count the rest: two bits that nothing shows for each `later`, two that are shown twice for each `earlier`.
+-- The way through the stream up to its first pending bit. Its frames are those sent, and what it passed is what searches passed (and is seen as gaps
+-- between offsets); what the moves skip or show again the slip figures count (`moveRule`, Slips.antt).
 pub record Account (xs : List Input) : Type 0 where
   pub way : List Piece
-  pub end : reach 0 way ≡ placeOf xs
-  pub frames : shown (stream xs) 0 way ≡ bitsOfAll (sentBy [] xs)
+  pub leads : Leads (stream xs) 0 0 way (placeOf xs) (stateAfter xs .clock)
+  pub frames : framesIn way ≡ sentBy [] xs
   pub gaps : passed way ≡ searched xs start
-  pub later : skips way ≡ stateAfter xs .later
-  pub earlier : backs way ≡ stateAfter xs .earlier
 
 abbrev pub accountRule : Type 0
 accountRule = (xs : List Input) → Account xs

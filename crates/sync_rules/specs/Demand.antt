@@ -8,7 +8,9 @@ use mathlib.Core.List.{List, [], _∷_, _++_}
 use mathlib.Core.Bool.{Bool, true, false}
 use Prim.Native.Nat.{ℕ, zero, suc, _+_, _-_, _*_, _/_, _%_, _≤_, _<_}
 use lib.ListN.{length, take, drop}
+use Rattle.sync_rules.specs.declared.Moves.{Moves}
 use Rattle.sync_rules.specs.Matching.{locksAt, inPlace, errors}
+use Rattle.sync_rules.specs.Moves.{noMoves}
 use Rattle.sync_rules.specs.State.{State, Input, start, pending, bring}
 use Rattle.sync_rules.specs.Frames.{Frame}
 use Rattle.sync_rules.specs.Pushes.{search, run, step}
@@ -53,22 +55,23 @@ unfolding lastOffset
 firstOffset [] p q = q
 firstOffset (f ∷ fs) p q = lastOffset (f .offset) fs + 384 + (q - p)
 
--- what a frame says: its offset, whether it matched, its marker errors, its 384 bits
+-- what a frame says: its offset, whether it matched, its marker errors, its moves, its 384 bits
 pub record Figures : Type 0 where
   pub offset : ℕ
   pub matched : Bool
   pub errors : ℕ
+  pub moves : Moves
   pub bits : List ℕ
 
 unfoldable pub figures : List Frame → List Figures
 figures [] = []
-figures (f ∷ fs) = record { offset = f .offset; matched = f .matched; errors = f .errors; bits = f .bits } ∷ figures fs
+figures (f ∷ fs) = record { offset = f .offset; matched = f .matched; errors = f .errors; moves = f .moves; bits = f .bits } ∷ figures fs
 
--- k frames in a row, the first with offset o and the 384 bits from place q on, each later one 384 further in both
+-- k frames in a row, the first with offset o and the 384 bits from place q on, each later one 384 further in both; none has a move
 unfoldable pub inARow : List ℕ → ℕ → ℕ → ℕ → List Figures
 unfolding errors
 inARow s q o zero = []
-inARow s q o (suc k) = record { offset = o; matched = true; errors = errors s q 0 + errors s (q + 128) 1 + errors s (q + 256) 2; bits = take 384 (drop q s) } ∷ inARow s (q + 384) (o + 384) k
+inARow s q o (suc k) = record { offset = o; matched = true; errors = errors s q 0 + errors s (q + 128) 1 + errors s (q + 256) 2; moves = noMoves; bits = take 384 (drop q s) } ∷ inARow s (q + 384) (o + 384) k
 
 -- the frames that the pushes `after` send when `before` was pushed
 unfoldable pub sentBy : List Input → List Input → List Frame

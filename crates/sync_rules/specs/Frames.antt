@@ -5,14 +5,16 @@ use mathlib.Core.Bool.{Bool, true, cond, _&&_, _||_}
 use Prim.Native.Nat.{ℕ, _+_}
 use lib.ListN.{length, take, drop}
 use lib.Dec.{leb, ltb, eqb}
+use Rattle.sync_rules.specs.declared.Moves.{Moves}
 use Rattle.sync_rules.specs.Matching.{matches, errors, twoOf, inPlace}
-use Rattle.sync_rules.specs.Moves.{Move, Stay, Later, Earlier, moved, moveTo}
+use Rattle.sync_rules.specs.Moves.{Move, Stay, Later, Earlier, moved, inBits, movesAt, moveTo}
 use Rattle.sync_rules.specs.State.{State, pending, pass, restore, counted}
 
 pub record Frame : Type 0 where
   pub offset : ℕ
   pub matched : Bool
   pub errors : ℕ
+  pub moves : Moves
   pub bits : List ℕ
   pub reliabilities : List ℕ  -- empty before the first soft push
 
@@ -56,12 +58,12 @@ thirdAt m = moved (thirdShift m) (secondAt m + 128)
 unfoldable pub cut : List ℕ → ℕ → ℕ → List ℕ
 cut xs p q = take 128 xs ++ (take 128 (drop p xs) ++ take 128 (drop q xs))
 
--- what is said of the frame at the front whose second and third segment start at p and q
-unfoldable pub frameAt : State → ℕ → ℕ → Frame
-unfolding cut twoOf matches errors
-frameAt m p q =
+-- what is said of the frame at the front, to which v moved, whose second and third segment start at p and q
+unfoldable pub frameAt : Move → State → ℕ → ℕ → Frame
+unfolding cut twoOf matches errors inBits
+frameAt v m p q =
     let xs = pending m in
-    record { offset = m .clock; matched = twoOf (matches xs 0 0) (matches xs p 1) (matches xs q 2); errors = errors xs 0 0 + errors xs p 1 + errors xs q 2; bits = cut xs p q; reliabilities = cond (m .soft) (cut (drop (m .restorable) (m .reliabilities)) p q) [] }
+    record { offset = m .clock; matched = twoOf (matches xs 0 0) (matches xs p 1) (matches xs q 2); errors = errors xs 0 0 + errors xs p 1 + errors xs q 2; moves = movesAt v p q; bits = cut xs p q; reliabilities = cond (m .soft) (cut (drop (m .restorable) (m .reliabilities)) p q) [] }
 
 -- the state that a frame leaves whose third segment starts at q; lock ends with the third frame in a row that is not matched
 unfoldable pub leave : State → ℕ → Bool → State
@@ -75,16 +77,16 @@ pub record Sent : Type 0 where
   pub frame : Frame
   pub next : State
 
-unfoldable pub sendAt : State → ℕ → ℕ → Sent
+unfoldable pub sendAt : Move → State → ℕ → ℕ → Sent
 unfolding frameAt leave
-sendAt m p q = record { frame = frameAt m p q; next = leave m q (frameAt m p q .matched) }
+sendAt v m p q = record { frame = frameAt v m p q; next = leave m q (frameAt v m p q .matched) }
 
--- a frame whose front was found, its two shifts counted
-unfoldable pub sendShifted : State → Sent
+-- a frame whose front was found by the move v, its two shifts counted
+unfoldable pub sendShifted : Move → State → Sent
 unfolding secondShift thirdShift moved counted sendAt
-sendShifted m = sendAt (counted (thirdShift m) (counted (secondShift m) m)) (secondAt m) (thirdAt m)
+sendShifted v m = sendAt v (counted (thirdShift m) (counted (secondShift m) m)) (secondAt m) (thirdAt m)
 
 -- the frame at the front: as it is if its three markers are in place, else with its front and segments followed
 unfoldable pub send : State → Sent
 unfolding inPlace sendAt sendShifted follow frontMove
-send m = cond (inPlace (pending m) 0) (sendAt m 128 256) (sendShifted (follow (frontMove m) m))
+send m = cond (inPlace (pending m) 0) (sendAt Stay m 128 256) (sendShifted (frontMove m) (follow (frontMove m) m))

@@ -8,3 +8,4 @@ pub mod Demand
 pub mod Counts
 pub mod Statements
 pub mod Account
+pub mod Slips

@@ -3,6 +3,8 @@
 use mathlib.Core.List.{List}
 use mathlib.Core.Bool.{cond}
 use Prim.Native.Nat.{ℕ, _+_, _-_}
+use lib.IntN.{ℤ, pos, negsuc, subℕ}
+use Rattle.sync_rules.specs.declared.Moves.{Moves}
 use Rattle.sync_rules.specs.Matching.{matches}
 
 -- where a segment starts: where it should, a symbol later, or a symbol earlier
@@ -16,6 +18,19 @@ unfoldable pub moved : Move → ℕ → ℕ
 moved Stay p = p
 moved Later p = p + 2
 moved Earlier p = p - 2
+
+-- how far it leads, in bits, with its sign
+unfoldable pub inBits : Move → ℤ
+inBits Stay = pos 0
+inBits Later = pos 2
+inBits Earlier = negsuc 1
+
+-- the moves of a frame whose front was moved by v, and whose second and third segment start at p and q behind it
+abbrev pub movesAt : Move → ℕ → ℕ → Moves
+movesAt v p q = record { front = inBits v; second = subℕ p 128; third = subℕ q 256 }
+
+abbrev pub noMoves : Moves
+noMoves = record { front = pos 0; second = pos 0; third = pos 0 }
 
 -- how many moves to a later symbol it is, and to an earlier one
 unfoldable pub laters : Move → ℕ

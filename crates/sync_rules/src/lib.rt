@@ -1,13 +1,37 @@
 // The synchroniser's rules on lists of bits, and what holds of them: demand 3 and document 01's statements. The crate `sync` has the code that follows them.
+ghost use mathlib.Core.Path.{_≡_};
+ghost use Rattle.sync_rules.specs.Moves.{noMoves};
 ghost use Rattle.sync_rules.specs.Demand.{demand3};
 ghost use Rattle.sync_rules.specs.Account.{accountRule};
 ghost use Rattle.sync_rules.specs.Statements.{rules, settledRule, gapRule, endRule, quietRule};
+ghost use Rattle.sync_rules.specs.Slips.{moveRule};
 
-// What a synchroniser says of a frame: the offset of its first bit, whether two of its markers match, and how many of its 48 marker bits are wrong.
+// How a frame slipped, in bits: how far its front was moved to follow a slip (-2, 0 or 2), and how far its second and third segment lie off their places
+// behind it (-2, 0 or 2; -4 to 4, the second's shift included). All zero for a frame in place.
+pub struct Moves {
+    pub front: i8,
+    pub second: i8,
+    pub third: i8,
+}
+
+// What a synchroniser says of a frame: the offset of its first bit, how many of its 48 marker bits are wrong, whether two of its markers match, and its moves.
+// In this order a head is 16 bytes; with the yes before the errors it is 24, and every push and feed pays for it.
 pub struct Head {
     pub offset: u64,
-    pub matched: bool,
     pub errors: u32,
+    pub matched: bool,
+    pub moves: Moves,
+}
+
+// No moves.
+pub fn no_moves() -> Moves
+    ensures { λ r. ⌜ r ≡ noMoves ⌝ }
+{
+    Moves {
+        front: 0,
+        second: 0,
+        third: 0,
+    }
 }
 
 // Demand 3, over any list of pushes from a start.
@@ -43,4 +67,9 @@ pub fn end_rule()
 // Pushes that are no more than `quiet` says neither search nor send.
 pub fn quiet_rule()
     ensures { λ _. ⌜ quietRule ⌝ }
+{}
+
+// The net slip is the sum of the front moves and third shifts of the frames sent, and each move lies in its range.
+pub fn move_rule()
+    ensures { λ _. ⌜ moveRule ⌝ }
 {}

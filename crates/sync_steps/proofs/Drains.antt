@@ -7,6 +7,7 @@ use Prim.Native.Nat.{ℕ, suc, _*_, _≤_}
 use native.Mathlib.Omega.{arith}
 use Rattle.sync_steps.specs.declared.numbers.Numbers.{Numbers}
 use Rattle.sync_rules.specs.declared.Head.{Head}
+use Rattle.sync_rules.specs.declared.Moves.{Moves}
 use Rattle.sync_steps.specs.declared.frames.Drained.{Drained}
 use Rattle.sync_steps.specs.declared.frames.Framed.{Framed}
 use Rattle.sync_steps.specs.declared.frames.Readiness.{Readiness}
@@ -49,15 +50,15 @@ module _ (bits reliabilities : List ℕ) where
   unfolding drain more
   once n m b e t = cond-yes _ _ _ _ e t
 
-  mk : ℕ → Bool → ℕ → Head
-  mk o m e = record { offset = o; matched = m; errors = e }
+  mk : ℕ → Bool → ℕ → Moves → Head
+  mk o m e v = record { offset = o; matched = m; errors = e; moves = v }
 
-  mk-eq : (o o′ : ℕ) (m m′ : Bool) (e e′ : ℕ) → o ≡ o′ → m ≡ m′ → e ≡ e′ → mk o m e ≡ mk o′ m′ e′
-  mk-eq o o′ m m′ e e′ p q r = cc
+  mk-eq : (o o′ : ℕ) (m m′ : Bool) (e e′ : ℕ) (v v′ : Moves) → o ≡ o′ → m ≡ m′ → e ≡ e′ → v ≡ v′ → mk o m e v ≡ mk o′ m′ e′ v′
+  mk-eq o o′ m m′ e e′ v v′ p q r s = cc
 
-  head-eq : (a : Head) (f : Frame) → a .offset ≡ f .offset → a .matched ≡ f .matched → a .errors ≡ f .errors → a ≡ headOf f
+  head-eq : (a : Head) (f : Frame) → a .offset ≡ f .offset → a .matched ≡ f .matched → a .errors ≡ f .errors → a .moves ≡ f .moves → a ≡ headOf f
   unfolding mk
-  head-eq a f p q r = mk-eq _ _ _ _ _ _ p q r
+  head-eq a f p q r s = mk-eq _ _ _ _ _ _ _ _ p q r s
 
   pub again : (room r1 r2 : List ℕ) (k n most : ℕ) (c : Numbers) (b : Bool) → b ≡ ready (viewOf bits reliabilities c) → b ≡ true
       → (f : Framed) → SentBy bits reliabilities room r1 (432 * k) most (send (viewOf bits reliabilities c)) f
@@ -73,7 +74,7 @@ module _ (bits reliabilities : List ℕ) where
         few = d′ .few;
         next = d′ .next;
         many = ap suc (d′ .many);
-        figures = ap₂ (λ (x : Head) (l : List Head). x ∷ l) (head-eq (f .head) (send M .frame) (s .head .0) (s .head .1) (s .head .2)) (d′ .figures);
+        figures = ap₂ (λ (x : Head) (l : List Head). x ∷ l) (head-eq (f .head) (send M .frame) (s .head .0) (s .head .1) (s .head .2) (s .head .3)) (d′ .figures);
         stored = d′ .stored ∙ ap (λ (z : List ℕ). laid z (suc k) (drain n (send M .next) .sent)) (s .laid);
       })
 

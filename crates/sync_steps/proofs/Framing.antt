@@ -12,6 +12,8 @@ use Rattle.sync_steps.specs.Ring.{ring, runs}
 use Rattle.sync_steps.specs.View.{viewOf, heldOf}
 use Rattle.sync_steps.specs.Steps.{Left, Sendable, SentBy}
 use Rattle.sync_rules.specs.Matching.{matches, errors, twoOf}
+use Rattle.sync_rules.specs.declared.Moves.{Moves}
+use Rattle.sync_rules.specs.Moves.{Move, movesAt}
 use Rattle.sync_rules.specs.Frames.{cut, frameAt, leave, sendAt}
 use Rattle.sync_rules.specs.Room.{bytesOf}
 use Rattle.sync_steps.proofs.Rings.{take-ring, drop-ring}
@@ -39,16 +41,16 @@ module _ (bits reliabilities room r1 r2 : List ℕ) (to : ℕ) (c : Numbers) (p 
     (fx : xe ≡ errors (ring bits (c .first + c .restorable) (c .pending)) 0 0) (fy : ye ≡ errors (ring bits (c .first + c .restorable) (c .pending)) p 1) (fz : ze ≡ errors (ring bits (c .first + c .restorable) (c .pending)) q 2)
     (eo : ok ≡ twoOf xo yo zo)
     (l1 : r1 ≡ sets room to (bytesOf 48 (runs bits (c .first + c .restorable) p q))) (l2 : r2 ≡ sets r1 (to + 48) (cond (c .soft) (runs reliabilities (c .first + c .restorable) p q) []))
-    (d : Numbers) (lf : Left c q ok d) where
-  fine : ok ≡ frameAt (viewOf bits reliabilities c) p q .matched
+    (d : Numbers) (lf : Left c q ok d) (moves : Moves) (v : Move) (em : moves ≡ movesAt v p q) where
+  fine : ok ≡ frameAt v (viewOf bits reliabilities c) p q .matched
   unfolding frameAt
   fine = eo ∙ two-like _ _ _ _ _ _ (of-pending (λ l. matches l 0 0) bits c xo ex) (of-pending (λ l. matches l p 1) bits c yo ey) (of-pending (λ l. matches l q 2) bits c zo ez)
 
-  count : xe + ye + ze ≡ frameAt (viewOf bits reliabilities c) p q .errors
+  count : xe + ye + ze ≡ frameAt v (viewOf bits reliabilities c) p q .errors
   unfolding frameAt
   count = sum3 _ _ _ _ _ _ (of-pending (λ l. errors l 0 0) bits c xe fx) (of-pending (λ l. errors l p 1) bits c ye fy) (of-pending (λ l. errors l q 2) bits c ze fz)
 
-  laid : r2 ≡ sets room to (bytesOf 48 (frameAt (viewOf bits reliabilities c) p q .bits) ++ frameAt (viewOf bits reliabilities c) p q .reliabilities)
+  laid : r2 ≡ sets room to (bytesOf 48 (frameAt v (viewOf bits reliabilities c) p q .bits) ++ frameAt v (viewOf bits reliabilities c) p q .reliabilities)
   unfolding frameAt
   laid =
       let A = bytesOf 48 (runs bits (c .first + c .restorable) p q) in
@@ -58,12 +60,12 @@ module _ (bits reliabilities room r1 r2 : List ℕ) (to : ℕ) (c : Numbers) (p 
       ∙ sets-append room to A Z
       ∙ ap₂ (λ (a b : List ℕ). sets room to (bytesOf 48 a ++ cond (c .soft) b [])) (sym (cut-runs bits c p q (sn .fit .0) (sn .fit .1))) (sym (cut-runs reliabilities c p q (sn .fit .0) (sn .fit .1)))
 
-  next : viewOf bits reliabilities d ≡ leave (viewOf bits reliabilities c) q (frameAt (viewOf bits reliabilities c) p q .matched)
+  next : viewOf bits reliabilities d ≡ leave (viewOf bits reliabilities c) q (frameAt v (viewOf bits reliabilities c) p q .matched)
   next = lf .same bits reliabilities ∙ ap (leave (viewOf bits reliabilities c) q) fine
 
-  pub goes-out : SentBy bits reliabilities room r2 to (c .pending) (sendAt (viewOf bits reliabilities c) p q) (record { numbers = d; head = record { offset = c .clock; matched = ok; errors = xe + ye + ze } })
+  pub goes-out : SentBy bits reliabilities room r2 to (c .pending) (sendAt v (viewOf bits reliabilities c) p q) (record { numbers = d; head = record { offset = c .clock; matched = ok; errors = xe + ye + ze; moves = moves } })
   unfolding sendAt frameAt
   goes-out =
       let far = sn .far .0 in
       let ln = lf .pending in
-      record { sound = lf .sound; low = lf .low; slips = omega (arith, lf .slips .0, lf .slips .1, sn .sound .slips-few); fails = lf .fails; pending = omega arith; next = next; head = (refl, fine, count); laid = laid }
+      record { sound = lf .sound; low = lf .low; slips = omega (arith, lf .slips .0, lf .slips .1, sn .sound .slips-few); fails = lf .fails; pending = omega arith; next = next; head = (refl, fine, count, em); laid = laid }

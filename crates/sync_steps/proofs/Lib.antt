@@ -14,3 +14,4 @@ pub mod Quiets
 pub mod Answering
 pub mod Feeding
 pub mod Inputs
+pub mod Moved

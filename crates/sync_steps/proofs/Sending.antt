@@ -7,17 +7,20 @@ use Prim.Native.Nat.{ℕ, _+_, _-_, _≤_}
 use native.Mathlib.Omega.{arith}
 use borrow.Author.Tests.{ltb-true}
 use lib.Dec.{ltb}
+use lib.IntN.{ℤ, pos, negsuc, subℕ}
 use Rattle.sync_steps.specs.declared.numbers.Numbers.{Numbers}
 use Rattle.sync_steps.specs.declared.frames.Framed.{Framed}
 use Rattle.sync_steps.specs.Ring.{ring}
 use Rattle.sync_steps.specs.View.{viewOf}
-use Rattle.sync_steps.specs.Steps.{Fronted, Sendable, SentBy, Ready, withMoves}
+use Rattle.sync_steps.specs.Steps.{Fronted, Sendable, SentBy, Ready, withMoves, movesSeen}
+use Rattle.sync_rules.specs.declared.Moves.{Moves}
 use Rattle.sync_rules.specs.Matching.{inPlace}
-use Rattle.sync_rules.specs.Moves.{Move, Stay, Later, Earlier, moved, moveTo, laters, earliers}
+use Rattle.sync_rules.specs.Moves.{Move, Stay, Later, Earlier, moved, inBits, movesAt, noMoves, moveTo, laters, earliers}
 use Rattle.sync_rules.specs.State.{State, pending, counted}
-use Rattle.sync_rules.specs.Frames.{Sent, send, sendAt, sendShifted, secondShift, secondAt, thirdShift, thirdAt}
+use Rattle.sync_rules.specs.Frames.{Sent, frontMove, send, sendAt, sendShifted, secondShift, secondAt, thirdShift, thirdAt}
 use Rattle.bits.proofs.Conds.{cond-lt, cond-ge, cond-both}
 use Rattle.bits.proofs.Tests.{cond-yes, cond-no}
+use Rattle.sync_rules.proofs.Slipped.{followed}
 use Rattle.sync_steps.proofs.Fronts.{of-pending}
 
 -- how a move is counted, by where it led
@@ -42,6 +45,25 @@ one-move a b = go (ltb a b) (ltb b a) refl refl
     go true false es et = omega arith
     go false t es et = cond-both (λ (n : ℕ). 0 + n ≤ 1) t 1 0 (omega arith) (omega arith)
 
+-- the front move, by the slips counted
+seen : (v : Move) (a b a′ b′ : ℕ) → a′ ≡ a + laters v → b′ ≡ b + earliers v → cond (ltb a a′) (pos 2) (cond (ltb b b′) (negsuc 1) (pos 0)) ≡ inBits v
+unfolding laters earliers inBits
+seen Stay a b a′ b′ e f = cond-ge a a′ (pos 2) _ (omega arith) ∙ cond-ge b b′ (negsuc 1) (pos 0) (omega arith)
+seen Later a b a′ b′ e f = cond-lt a a′ (pos 2) _ (omega arith)
+seen Earlier a b a′ b′ e f = cond-ge a a′ (pos 2) _ (omega arith) ∙ cond-lt b b′ (negsuc 1) (pos 0) (omega arith)
+
+-- the moves of a frame in place, and of one whose front was followed
+pub none-moved : noMoves ≡ movesAt Stay 128 256
+unfolding inBits
+none-moved = refl
+
+pub moved-so : (bits reliabilities : List ℕ) (c d : Numbers) → Fronted bits c d → (p q : ℕ) (r : Moves) → r ≡ movesSeen c d p q → r ≡ movesAt (frontMove (viewOf bits reliabilities c)) p q
+moved-so bits reliabilities c d fr p q r er =
+    let m = viewOf bits reliabilities c in
+    let f = followed (frontMove m) m in
+    er ∙ ap (λ (z : ℤ). record { front = z; second = subℕ p 128; third = subℕ q 256 })
+    (seen (frontMove m) (c .later) (c .earlier) (d .later) (d .earlier) (ap (λ (n : State). n .later) (fr .same reliabilities) ∙ f .0) (ap (λ (n : State). n .earlier) (fr .same reliabilities) ∙ f .1))
+
 pub resent : (bits reliabilities room room′ : List ℕ) (to n n′ : ℕ) (s s′ : Sent) (r : Framed) → s ≡ s′ → n ≤ n′ → SentBy bits reliabilities room room′ to n s r → SentBy bits reliabilities room room′ to n′ s′ r
 resent bits reliabilities room room′ to n n′ s s′ r e h x =
     subst (λ (z : Sent). SentBy bits reliabilities room room′ to n′ z r) e
@@ -53,7 +75,7 @@ module _ (bits reliabilities : List ℕ) (c : Numbers) (placed : Bool) (rd : Rea
       let h = rd .enough in
       record { sound = rd .sound; near = (omega arith, omega arith); far = (omega arith, omega arith); fit = (omega arith, omega arith); failures = rd .failures; locked = rd .locked }
 
-  pub in-place : placed ≡ true → sendAt (viewOf bits reliabilities c) 128 256 ≡ send (viewOf bits reliabilities c)
+  pub in-place : placed ≡ true → sendAt Stay (viewOf bits reliabilities c) 128 256 ≡ send (viewOf bits reliabilities c)
   unfolding send
   in-place t = cond-yes _ _ _ _ (of-pending (λ l. inPlace l 0) bits c placed ei) t
 
@@ -127,12 +149,15 @@ module _ (bits reliabilities : List ℕ) (c : Numbers) (placed : Bool) (rd : Rea
     unfolding counted counted-at
     all-counted = counts _ _ _ _ laters-two earliers-two
 
-    like : (m m′ : State) (a a′ b b′ : ℕ) → m ≡ m′ → a ≡ a′ → b ≡ b′ → sendAt m a b ≡ sendAt m′ a′ b′
-    like m m′ a a′ b b′ f g h = cc
+    like : (v : Move) (m m′ : State) (a a′ b b′ : ℕ) → m ≡ m′ → a ≡ a′ → b ≡ b′ → sendAt v m a b ≡ sendAt v m′ a′ b′
+    like v m m′ a a′ b b′ f g h = cc
 
-    pub out-of-place : sendAt (viewOf bits reliabilities e) p q ≡ send (viewOf bits reliabilities c)
+    abbrev Fr : Move
+    Fr = frontMove (viewOf bits reliabilities c)
+
+    pub out-of-place : sendAt Fr (viewOf bits reliabilities e) p q ≡ send (viewOf bits reliabilities c)
     unfolding send sendShifted counted-at
     out-of-place =
-        like _ _ _ _ _ _ (ap (viewOf bits reliabilities) ee ∙ all-counted) second third
-        ∙ ap sendShifted (fr .same reliabilities)
+        like Fr _ _ _ _ _ _ (ap (viewOf bits reliabilities) ee ∙ all-counted) second third
+        ∙ ap (sendShifted Fr) (fr .same reliabilities)
         ∙ cond-no _ _ _ _ (of-pending (λ l. inPlace l 0) bits c placed ei) no

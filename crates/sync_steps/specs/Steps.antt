@@ -2,8 +2,10 @@
 -- Assumes nothing.
 use mathlib.Core.Path.{_≡_}
 use mathlib.Core.List.{List, [], _∷_, _++_}
-use mathlib.Core.Bool.{Bool, true, false, _||_}
+use mathlib.Core.Bool.{Bool, true, false, _||_, cond}
 use Prim.Native.Nat.{ℕ, zero, suc, _+_, _-_, _*_, _≤_, _<_}
+use lib.Dec.{ltb}
+use lib.IntN.{ℤ, pos, negsuc, subℕ}
 use lib.ListN.{length}
 use lib.Seq.{sets}
 use Rattle.sync_steps.specs.declared.numbers.Numbers.{Numbers}
@@ -12,9 +14,11 @@ use Rattle.sync_steps.specs.declared.frames.Framed.{Framed}
 use Rattle.sync_steps.specs.declared.frames.Readiness.{Readiness}
 use Rattle.sync_steps.specs.declared.pushes.Given.{Given}
 use Rattle.sync_rules.specs.declared.Head.{Head}
+use Rattle.sync_rules.specs.declared.Moves.{Moves}
 use Rattle.sync_steps.specs.Ring.{ring}
 use Rattle.sync_steps.specs.View.{viewOf, Sound, Low, Steady, Few, Rings}
 use Rattle.sync_rules.specs.Matching.{inPlace}
+use Rattle.sync_rules.specs.Moves.{noMoves}
 use Rattle.sync_rules.specs.State.{Input, pass, restore, bring}
 use Rattle.sync_rules.specs.Frames.{Frame, Sent, ready, frontMove, follow, leave}
 use Rattle.sync_rules.specs.Pushes.{Out, search, drain}
@@ -59,6 +63,14 @@ Waiting c = (c .locked ≡ true → c .pending < 384) × (c .pending ≤ 1151)
 -- c with these counts of slips
 abbrev pub withMoves : Numbers → ℕ → ℕ → Numbers
 withMoves c a b = record { first = c .first; restorable = c .restorable; pending = c .pending; taken = c .taken; clock = c .clock; later = a; earlier = b; frames = c .frames; synchronised = c .synchronised; failures = c .failures; locked = c .locked; soft = c .soft }
+
+-- the front move between the numbers c and d, by the slips counted
+abbrev pub frontSeen : Numbers → Numbers → ℤ
+frontSeen c d = cond (ltb (c .later) (d .later)) (pos 2) (cond (ltb (c .earlier) (d .earlier)) (negsuc 1) (pos 0))
+
+-- and the moves of a frame whose segments start p and q behind its front
+abbrev pub movesSeen : Numbers → Numbers → ℕ → ℕ → Moves
+movesSeen c d p q = record { front = frontSeen c d; second = subℕ p 128; third = subℕ q 256 }
 
 pub record Searched (bits : List ℕ) (c r : Numbers) : Type 0 where
   pub sound : Sound r
@@ -106,7 +118,7 @@ pub record SentBy (bits reliabilities room room′ : List ℕ) (to most : ℕ) (
   pub fails : r .numbers .locked ≡ true → r .numbers .failures ≤ 2
   pub pending : r .numbers .pending + 380 ≤ most
   pub next : viewOf bits reliabilities (r .numbers) ≡ s .next
-  pub head : (r .head .offset ≡ s .frame .offset) × (r .head .matched ≡ s .frame .matched) × (r .head .errors ≡ s .frame .errors)
+  pub head : (r .head .offset ≡ s .frame .offset) × (r .head .matched ≡ s .frame .matched) × (r .head .errors ≡ s .frame .errors) × (r .head .moves ≡ s .frame .moves)
   pub laid : room′ ≡ sets room to (bytesOf 48 (s .frame .bits) ++ s .frame .reliabilities)
 
 -- a lock, with a frame that can be sent: 384 bits of one in place, 392 of one that is not
@@ -128,12 +140,12 @@ pub record Looked (bits : List ℕ) (c : Numbers) (r : Readiness) : Type 0 where
 
 -- the figures of a frame that go back by value
 abbrev pub headOf : Frame → Head
-headOf f = record { offset = f .offset; matched = f .matched; errors = f .errors }
+headOf f = record { offset = f .offset; matched = f .matched; errors = f .errors; moves = f .moves }
 
 -- n heads: those of the frames, then zeros
 unfoldable pub headsOf : ℕ → List Frame → List Head
 headsOf zero fs = []
-headsOf (suc n) [] = record { offset = 0; matched = false; errors = 0 } ∷ headsOf n []
+headsOf (suc n) [] = record { offset = 0; matched = false; errors = 0; moves = noMoves } ∷ headsOf n []
 headsOf (suc n) (f ∷ fs) = headOf f ∷ headsOf n fs
 
 -- the state, n heads and the room, from slot k on, are those of the frames that o sends

@@ -8,6 +8,7 @@ ghost use Rattle.sync_steps.specs.Ring.{ring};
 ghost use Rattle.sync_steps.specs.View.{Sound, Low, Steady, viewOf};
 ghost use Rattle.sync_steps.specs.Steps.{Fronted, Sendable, SentBy, Ready, Looked, DrainedBy, drainedOf, nothingOf};
 ghost use Rattle.sync_rules.specs.Matching.{inPlace};
+ghost use Rattle.sync_rules.specs.Moves.{Move, movesAt};
 ghost use Rattle.sync_rules.specs.Frames.{sendAt, send};
 ghost use Rattle.sync_rules.specs.Pushes.{drain};
 use super::markers::in_place;
@@ -15,6 +16,7 @@ use super::markers::marker;
 use super::markers::matches_at;
 use super::markers::segment_at;
 use super::markers::two_of;
+use super::moves::moves_of;
 use super::numbers::Numbers;
 use super::numbers::dropped;
 use super::numbers::restored;
@@ -23,6 +25,7 @@ use super::numbers::shifted;
 use super::room::lay_bits;
 use super::room::lay_soft;
 use sync_rules::Head;
+use sync_rules::Moves;
 
 // What is said of a frame, and the numbers that it leaves.
 pub struct Framed {
@@ -72,7 +75,7 @@ fn front(bits: &[u8; 1155], c: Numbers) -> Numbers
     c
 }
 
-// The frame at the front, its second and third segment p and q behind it.
+// The frame at the front, its second and third segment p and q behind it, with its moves.
 fn frame_at<'a>(
     bits: &'a [u8; 1155],
     reliabilities: &'a [u8; 1155],
@@ -81,9 +84,10 @@ fn frame_at<'a>(
     to: usize,
     p: usize,
     q: usize,
+    moves: Moves,
 ) -> Framed
     requires { ⌜ Bits (now bits) ⌝ ∗ ⌜ Sendable c p q ⌝ ∗ ⌜ to + 432 ≤ length (now room) ⌝ }
-    ensures { λ r. ⌜ SentBy (now (bits .entry)) (now (reliabilities .entry)) (now (room .entry)) (now (room .exit)) to (c .pending) (sendAt (viewOf (now (bits .entry)) (now (reliabilities .entry)) c) p q) r ⌝ }
+    ensures { λ r. ⌜ ((v : Move) → moves ≡ movesAt v p q → SentBy (now (bits .entry)) (now (reliabilities .entry)) (now (room .entry)) (now (room .exit)) to (c .pending) (sendAt v (viewOf (now (bits .entry)) (now (reliabilities .entry)) c) p q) r) ⌝ }
 {
     let base = c.first + c.restorable;
     let x = marker(bits, base, 0);
@@ -97,6 +101,7 @@ fn frame_at<'a>(
         offset: c.clock,
         matched,
         errors: x.errors + y.errors + z.errors,
+        moves,
     };
     Framed { numbers, head }
 }
@@ -114,7 +119,12 @@ fn frame<'a>(
     ensures { λ r. ⌜ SentBy (now (bits .entry)) (now (reliabilities .entry)) (now (room .entry)) (now (room .exit)) to (c .pending + 2) (send (viewOf (now (bits .entry)) (now (reliabilities .entry)) c)) r ⌝ }
 {
     if placed {
-        return frame_at(bits, reliabilities, c, room, to, 128, 256);
+        let moves = Moves {
+            front: 0,
+            second: 0,
+            third: 0,
+        };
+        return frame_at(bits, reliabilities, c, room, to, 128, 256, moves);
     }
     let d = front(bits, c);
     let base = d.first + d.restorable;
@@ -122,7 +132,8 @@ fn frame<'a>(
     let at = p + 128;
     let q = segment_at(bits, base, at, 2);
     let e = shifted(d, p, q);
-    frame_at(bits, reliabilities, e, room, to, p, q)
+    let moves = moves_of(c, d, p, q);
+    frame_at(bits, reliabilities, e, room, to, p, q, moves)
 }
 
 // Whether a frame is ready.
@@ -177,10 +188,16 @@ fn frames_out(numbers: Numbers, count: usize, heads: [Head; 3]) -> Drained
 pub fn nothing(numbers: Numbers) -> Drained
     ensures { λ r. ⌜ r ≡ nothingOf numbers ⌝ }
 {
+    let moves = Moves {
+        front: 0,
+        second: 0,
+        third: 0,
+    };
     let none = Head {
         offset: 0,
         matched: false,
         errors: 0,
+        moves,
     };
     Drained {
         numbers,
@@ -199,10 +216,16 @@ fn three<'a>(
     requires { ⌜ Bits (now bits) ⌝ ∗ ⌜ Steady c ⌝ ∗ ⌜ 1296 ≤ length (now room) ⌝ ∗ ⌜ (c .locked ≡ false → c .pending ≤ 1151) ⌝ }
     ensures { λ r. ⌜ DrainedBy (now (bits .entry)) (now (reliabilities .entry)) (now (room .entry)) (now (room .exit)) 0 3 (drain 3 (viewOf (now (bits .entry)) (now (reliabilities .entry)) c)) (r .numbers) (r .count) (r .heads) ⌝ }
 {
+    let moves = Moves {
+        front: 0,
+        second: 0,
+        third: 0,
+    };
     let none = Head {
         offset: 0,
         matched: false,
         errors: 0,
+        moves,
     };
     let a = look(bits, c);
     if a.ready {

@@ -6,6 +6,7 @@ use bits::Refusal;
 mod feeds; // feeds.rt: many pushes
 mod frames; // frames.rt: one frame, and up to three of them
 mod markers; // markers.rt: reading the ring of bits
+mod moves; // moves.rt: how a frame slipped
 mod numbers; // numbers.rt: the numbers of a state
 mod pushes; // pushes.rt: the parts of a push
 mod room; // room.rt: writing a frame into the lent room

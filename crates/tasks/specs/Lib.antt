@@ -1,2 +1,3 @@
 pub mod Receptions
 pub mod Tries
+pub mod Slips

@@ -12,6 +12,7 @@ use Rattle.sync_rules.specs.State.{State, Input}
 use Rattle.sync_rules.specs.Counts.{stateAfter}
 use Rattle.sync_rules.specs.Demand.{sentBy}
 use Rattle.sync_rules.specs.declared.Head.{Head}
+use Rattle.sync_rules.specs.Moves.{noMoves}
 use Rattle.tasks.specs.declared.reception.Heard.{Heard}
 use Rattle.tasks.specs.declared.reception.Next.{Next}
 use Rattle.tasks.specs.declared.reception.Next.the-variants.{Frame, NoFrame}
@@ -48,7 +49,7 @@ gives (Frame h) = 1
 gives NoFrame = 0
 
 abbrev pub noHead : Head
-noHead = record { offset = 0; matched = false; errors = 0 }
+noHead = record { offset = 0; matched = false; errors = 0; moves = noMoves }
 
 -- a frame as a caller of the synchroniser gets it
 abbrev pub frameOf : Head → List ℕ → Got

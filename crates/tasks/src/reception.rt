@@ -10,6 +10,7 @@ use journal::Earlier;
 use sync::Push;
 use sync::Synchroniser;
 use sync_rules::Head;
+use sync_rules::no_moves;
 
 // The file, whether it may hold more, and the piece that was read last, with how many of its dibits are taken.
 // The synchroniser, the frames of its last push, and how many of them were given. How many frames were given in all, and the last of them.
@@ -53,10 +54,12 @@ pub(crate) fn opened(fd: i32) -> Reception
     ensures ready { λ r. ⌜ Ready r ⌝ }
     ensures given { λ r. ⌜ r .frames ≡ 0 ⌝ }
 {
+    let moves = no_moves();
     let none = Head {
         offset: 0,
         matched: false,
         errors: 0,
+        moves,
     };
     let sync = Synchroniser::new();
     Reception {

@@ -7,11 +7,13 @@ use Prim.Native.Nat.{ℕ, zero, suc, _+_, _-_, _*_, _/_, _%_, _^_, _<_, _≤_}
 use native.Mathlib.Nat.{pow-suc, pow-le-pow-right, lt-of-lt-of-le}
 use native.Mathlib.Omega.{arith}
 use lib.Dec.{ltb, lit<}
+use lib.IntN.{ℤ, pos, negsuc, natAbs}
 use lib.ListN.{length, length-append}
+use lib.Signed.{ltZ}
 use borrow.Author.Tests.{ltb-true, ltb-false}
 use Rattle.bits.proofs.Conds.{cond-lt, cond-ge, cond-cases}
 use Rattle.io.specs.Digits.{digits, glyph, Fewest}
-use Rattle.texts.specs.Decimal.{decimalIn, decimal, saidFrom, saidBy}
+use Rattle.texts.specs.Decimal.{decimalIn, decimal, signedDecimal, saidFrom, saidBy}
 
 -- ---- the digits say the number
 
@@ -54,6 +56,38 @@ no-zero-first (suc k) n ds h =
     let top = first-of (decimalIn k (n / 10)) 48 ds ((48 + n % 10) ∷ []) e (never-empty k (n / 10) (omega arith) (omega arith)) in
     let z : n / 10 ≡ 0 = no-zero-first k (n / 10) (top .0) (omega arith) (top .1) in
     omega arith)
+
+-- ---- the sign
+
+first-in : (a : List ℕ) (x d : ℕ) (ds : List ℕ) → a ++ (x ∷ []) ≡ d ∷ ds → 48 ≤ x → ((es : List ℕ) → a ≡ d ∷ es → 48 ≤ d) → 48 ≤ d
+first-in [] x d ds e h f = let same : x ≡ d = cc in omega arith
+first-in (y ∷ a) x d ds e h f = f a (cc)
+
+-- a digit is no minus sign, which is 45
+first-digit : (k n d : ℕ) (ds : List ℕ) → decimalIn k n ≡ d ∷ ds → 48 ≤ d
+unfolding decimalIn
+first-digit zero n d ds = λ e. let z : _≡_ {A = ℕ} 0 1 = cc in absurd (omega arith)
+first-digit (suc k) n d ds =
+    cond-cases (λ (l : List ℕ). l ≡ d ∷ ds → 48 ≤ d) (ltb n 10) ((48 + n) ∷ []) (decimalIn k (n / 10) ++ ((48 + n % 10) ∷ []))
+    (λ t e. let same : 48 + n ≡ d = cc in omega arith)
+    (λ t e. first-in (decimalIn k (n / 10)) (48 + n % 10) d ds e (omega arith) (λ es. first-digit k (n / 10) d es))
+
+decimal-apart : (a b : ℕ) → a < 10 ^ 20 → b < 10 ^ 20 → decimal a ≡ decimal b → a ≡ b
+decimal-apart a b h k e = sym (says-in 20 a h) ∙ ap saidBy e ∙ says-in 20 b k
+
+pub signed-apart : (a b : ℤ) → natAbs a < 10 ^ 20 → natAbs b < 10 ^ 20 → signedDecimal a ≡ signedDecimal b → a ≡ b
+signed-apart (pos a) (pos b) h k e = ap pos (decimal-apart a b h k e)
+signed-apart (pos a) (negsuc b) h k e = absurd (omega (arith, first-digit 20 a 45 _ e))
+signed-apart (negsuc a) (pos b) h k e = absurd (omega (arith, first-digit 20 b 45 _ (sym e)))
+signed-apart (negsuc a) (negsuc b) h k e = let same : decimal (suc a) ≡ decimal (suc b) = cc in ap negsuc (omega (arith, decimal-apart (suc a) (suc b) h k same))
+
+pub below-zero : (z : ℤ) → ltZ z (pos 0) ≡ true → 45 ∷ decimal (natAbs z) ≡ signedDecimal z
+below-zero (pos n) t = absurd (omega (arith, ltb-true n 0 t))
+below-zero (negsuc n) t = refl
+
+pub not-below : (z : ℤ) → ltZ z (pos 0) ≡ false → decimal (natAbs z) ≡ signedDecimal z
+not-below (pos n) t = refl
+not-below (negsuc n) t = let never : _≡_ {A = ℕ} 0 1 = cc in absurd (omega arith)
 
 -- ---- what `io::decimal` makes
 

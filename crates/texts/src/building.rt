@@ -4,9 +4,10 @@ ghost use mathlib.Core.List.{List, [], _∷_, _++_};
 ghost use Prim.Native.Nat.{ℕ, _+_, _≤_};
 ghost use lib.ListN.{length};
 ghost use lib.Seq.{paste};
-ghost use Rattle.texts.specs.Decimal.{decimal};
+ghost use Rattle.texts.specs.Decimal.{decimal, signedDecimal};
 ghost use Rattle.texts.specs.Text.{lineOf};
 use crate::Line;
+use bits::amount;
 
 pub fn empty() -> Line
     ensures size { λ r. ⌜ r .size ≡ 0 ⌝ }
@@ -47,6 +48,17 @@ pub fn with_word(line: Line, word: &[u8]) -> Line
     }
 }
 
+// The line with a number's digits behind it.
+fn with_digits(line: Line, n: u64) -> Line
+    requires { ⌜ line .size + 20 ≤ 128 ⌝ }
+    ensures size { λ r. ⌜ r .size ≤ line .size + 20 ⌝ }
+    ensures text { λ r. ⌜ ((t : List ℕ) → line ≡ lineOf t → r ≡ lineOf (t ++ decimal n)) ⌝ }
+{
+    let mut digits = [0u8; 20];
+    let k = io::decimal(n, &mut digits);
+    with_word(line, &digits[..k])
+}
+
 // The line with a space and a number behind it.
 pub fn with_number(line: Line, n: u64) -> Line
     requires { ⌜ line .size + 21 ≤ 128 ⌝ }
@@ -54,7 +66,18 @@ pub fn with_number(line: Line, n: u64) -> Line
     ensures text { λ r. ⌜ ((t : List ℕ) → line ≡ lineOf t → r ≡ lineOf (t ++ (32 ∷ decimal n))) ⌝ }
 {
     let spaced = with_word(line, b" ");
-    let mut digits = [0u8; 20];
-    let k = io::decimal(n, &mut digits);
-    with_word(spaced, &digits[..k])
+    with_digits(spaced, n)
+}
+
+// The line with a space and a number with its sign behind it.
+pub fn with_signed(line: Line, n: i64) -> Line
+    requires { ⌜ line .size + 22 ≤ 128 ⌝ }
+    ensures size { λ r. ⌜ r .size ≤ line .size + 22 ⌝ }
+    ensures text { λ r. ⌜ ((t : List ℕ) → line ≡ lineOf t → r ≡ lineOf (t ++ (32 ∷ signedDecimal n))) ⌝ }
+{
+    if n < 0 {
+        let minus = with_word(line, b" -");
+        return with_digits(minus, amount(n));
+    }
+    with_number(line, amount(n))
 }

@@ -7,6 +7,7 @@ mod printing;
 
 pub use building::empty;
 pub use building::with_number;
+pub use building::with_signed;
 pub use building::with_word;
 pub use digits::hex_of;
 pub use printing::print;

@@ -4,7 +4,7 @@ use Rattle.demands.proofs.synchroniser_statements.Statement.{statement}
 use Rattle.demands.proofs.synchroniser_statements.Tie as tie
 
 returns : tie.Need-returns
-returns c = statements (c .before .before .calls-follow-the-rules .ensures) (c .before .synchroniser-rules .ensures) (c .gap-rule .ensures)
+returns c = statements (c .before .before .before .calls-follow-the-rules .ensures) (c .before .before .synchroniser-rules .ensures) (c .before .gap-rule .ensures) (c .moves-of-calls .ensures)
 
 pub synchroniser-statements-spec : {M : Type 1} → statement M
-synchroniser-statements-spec = tie.close (tie.spec (λ c κs. search needs) (λ c κs. search needs) (λ c κs. search needs) returns)
+synchroniser-statements-spec = tie.close (tie.spec (λ c κs. search needs) (λ c κs. search needs) (λ c κs. search needs) (λ c κs. search needs) returns)

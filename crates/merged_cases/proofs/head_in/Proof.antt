@@ -7,7 +7,8 @@ use lib.Dec.{eqb}
 use lib.ListN.{getD}
 use denote.Ref.{now}
 use Rattle.sync_rules.specs.declared.Head.{Head}
-use Rattle.merged_cases.specs.Merges.{eightAt}
+use Rattle.sync_rules.specs.declared.Moves.{Moves}
+use Rattle.merged_cases.specs.Merges.{eightAt, movesIn}
 use borrow.Author.Needs.{needs}
 use Rattle.merged_cases.proofs.head_in.Statement.{statement}
 use Rattle.merged_cases.proofs.head_in.Tie as tie
@@ -15,14 +16,16 @@ use Rattle.merged_cases.proofs.head_in.Tie as tie
 returns : tie.Need-returns
 returns c =
     let first = c .before .before .before in
-    let input : List ℕ = now (first .before .before .args .input) in
-    let figures : ℕ → ℕ → ℕ → Head = λ o m e. record { offset = o; matched = eqb m 1; errors = e } in
+    let slips = first .before in
+    let input : List ℕ = now (slips .before .before .args .input) in
+    let figures : Moves → ℕ → ℕ → ℕ → Head = λ v o m e. record { offset = o; matched = eqb m 1; errors = e; moves = v } in
     let flag = c .before .before .at in
     let errors : c .wide .result ≡ getD input 10 0 = c .wide .ensures .0 ∙ c .before .at2 .ensures in
-    ap (λ (o : ℕ). figures o (flag .result) (c .wide .result)) (first .eight .ensures)
-    ∙ ap (λ (m : ℕ). figures (eightAt input 1) m (c .wide .result)) (flag .ensures)
-    ∙ ap (λ (e : ℕ). figures (eightAt input 1) (getD input 9 0) e) errors
+    ap (λ (v : Moves). figures v (first .eight .result) (flag .result) (c .wide .result)) (slips .moves-in .ensures)
+    ∙ ap (λ (o : ℕ). figures (movesIn input) o (flag .result) (c .wide .result)) (first .eight .ensures)
+    ∙ ap (λ (m : ℕ). figures (movesIn input) (eightAt input 1) m (c .wide .result)) (flag .ensures)
+    ∙ ap (λ (e : ℕ). figures (movesIn input) (eightAt input 1) (getD input 9 0) e) errors
 
 pub head-in-spec : {M : Type 1} → statement M
 head-in-spec =
-    tie.close (tie.spec (λ c κs. search needs) (λ c κs. search needs) (λ c κs. search needs) (λ c κs. search needs) (λ c. search needs) returns)
+    tie.close (tie.spec (λ c κs. search needs) (λ c κs. search needs) (λ c κs. search needs) (λ c κs. search needs) (λ c κs. search needs) (λ c. search needs) returns)

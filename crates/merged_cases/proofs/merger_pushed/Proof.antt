@@ -18,7 +18,7 @@ returns : tie.Need-returns
 returns c =
     let start = c .before .before .before .before in
     let input : List ℕ = now (start .args .input) in
-    told-unfit (start .args .m) (pushCase input (viewOf (start .args .m))) (now (start .args .out)) (c .no-case .result) (sym (cond-ne (length input) 20 _ _ (c .before .if1 .taken))) (c .no-case .ensures) (start .pre)
+    told-unfit (start .args .m) (pushCase input (viewOf (start .args .m))) (now (start .args .out)) (c .no-case .result) (sym (cond-ne (length input) 23 _ _ (c .before .if1 .taken))) (c .no-case .ensures) (start .pre)
 
 returns-2 : tie.Need-returns-2
 returns-2 c =
@@ -30,7 +30,7 @@ returns-2 c =
     let input : List ℕ = now (start .args .input) in
     let step = pushIn input (viewOf (start .args .m)) in
     let gave = done .pushed-in .ensures in
-    told-as _ (pushCase input (viewOf (start .args .m))) (sym (cond-eq (length input) 20 _ _ (tested .if1 .left)))
+    told-as _ (pushCase input (viewOf (start .args .m))) (sym (cond-eq (length input) 23 _ _ (tested .if1 .left)))
     (told (pushedNumber (step .answer) ∷ []) (step .next) (gave .valid) (gave .leaves)
     (put-as (one .put .ensures) (ap (λ (n : ℕ). n ∷ []) (numbered .pushed-number .ensures ∙ ap pushedNumber (gave .answers)))))
 

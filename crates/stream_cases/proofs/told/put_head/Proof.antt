@@ -1,16 +1,23 @@
 -- `put_head` puts a frame's figures.
 -- Assumes nothing.
-use Rattle.case_bytes.proofs.Puts.{put-more}
+use Rattle.case_bytes.proofs.Puts.{put-as, put-more}
+use Rattle.case_bytes.proofs.Twos.{three-kept}
 use borrow.Author.Needs.{needs}
 use Rattle.stream_cases.proofs.told.put_head.Statement.{statement}
 use Rattle.stream_cases.proofs.told.put_head.Tie as tie
 
 returns : tie.Need-returns
 returns c =
-    let errors = c .before .before in
+    let moves = c .before .before in
+    let errors = moves .before .before .before .before .before .before .before .before in
     let flag = errors .before .before .before .before .before in
     let offset = flag .before .before .before .before in
-    put-more (offset .put-number .ensures) (put-more (flag .put-flag .ensures) (errors .put-number2 .ensures))
+    let v = offset .before .before .before .args .head .moves in
+    let small = moves .before .struct-told3 .given in
+    put-more (offset .put-number .ensures)
+    (put-more (flag .put-flag .ensures)
+    (put-more (errors .put-number2 .ensures)
+    (put-as (moves .put-three .ensures) (three-kept (v .front) (v .second) (v .third) (small .0 .1) (small .1 .0 .1) (small .1 .1 .0 .1)))))
 
 pub put-head-spec : {M : Type 1} → statement M
 put-head-spec =
@@ -19,6 +26,7 @@ put-head-spec =
     (λ c κs. search needs)
     (λ c κs. search needs)
     (λ c. search needs)
+    (λ c κs. search needs)
     (λ c κs. search needs)
     (λ c. search needs)
     returns)

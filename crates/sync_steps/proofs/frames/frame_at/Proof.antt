@@ -24,14 +24,14 @@ sent-requires c κs =
     let s = c .before .before .before .before .before .before .before .before .before .before .before .before .before .before .pre .1 .0 in
     (s .sound, (s .far .0, (s .fit .1, (s .failures, s .locked))))
 
-add-t21 : tie.Need-add-t21
-add-t21 c = record { fits = omega (arith, c .before .before .before .before .before .before .before .before .before .before .before .before .before .before .marker .ensures .1 .1, c .before .before .before .before .before .before .before .before .before .before .before .before .before .marker2 .ensures .1 .1) }
-
 add-t22 : tie.Need-add-t22
-add-t22 c = record { fits = omega (arith, c .before .before .before .before .before .before .before .before .before .before .before .before .before .before .before .marker .ensures .1 .1, c .before .before .before .before .before .before .before .before .before .before .before .before .before .before .marker2 .ensures .1 .1, c .before .before .before .before .before .before .before .before .before .before .before .before .before .marker3 .ensures .1 .1) }
+add-t22 c = record { fits = omega (arith, c .before .before .before .before .before .before .before .before .before .before .before .before .before .before .marker .ensures .1 .1, c .before .before .before .before .before .before .before .before .before .before .before .before .before .marker2 .ensures .1 .1) }
+
+add-t23 : tie.Need-add-t23
+add-t23 c = record { fits = omega (arith, c .before .before .before .before .before .before .before .before .before .before .before .before .before .before .before .marker .ensures .1 .1, c .before .before .before .before .before .before .before .before .before .before .before .before .before .before .marker2 .ensures .1 .1, c .before .before .before .before .before .before .before .before .before .before .before .before .before .marker3 .ensures .1 .1) }
 
 returns : tie.Need-returns
-returns c =
+returns c = λ v em.
     let s = c .before .before .before .before .before .before .before .before .before .before .before .before .before .before .before .before .before .before in
     let a = s .args in
     let k = a .c in
@@ -42,7 +42,7 @@ returns c =
     goes-out (now (a .bits)) (now (a .reliabilities)) (now (a .room)) _ _ (a .to) k (a .p) (a .q) sn _ _ _ _ _ _ _
     (m1 .0 (k .first + k .restorable) 0 (k .pending) (add-zero _) (omega (arith, sn .fit .0))) (m2 .0 (k .first + k .restorable) (a .p) (k .pending) refl (omega (arith, sn .fit .0))) (m3 .0 (k .first + k .restorable) (a .q) (k .pending) refl (omega (arith, sn .fit .1)))
     (m1 .1 .0 (k .first + k .restorable) 0 (k .pending) (add-zero _) (omega (arith, sn .fit .0))) (m2 .1 .0 (k .first + k .restorable) (a .p) (k .pending) refl (omega (arith, sn .fit .0))) (m3 .1 .0 (k .first + k .restorable) (a .q) (k .pending) refl (omega (arith, sn .fit .1)))
-    (c .before .before .before .before .before .before .before .before .before .before .before .before .two-of .ensures) (c .before .before .before .before .before .before .before .before .before .before .lay-bits .ensures) (c .before .before .before .before .before .before .lay-soft .ensures) _ (c .before .before .before .sent .ensures)
+    (c .before .before .before .before .before .before .before .before .before .before .before .before .two-of .ensures) (c .before .before .before .before .before .before .before .before .before .before .lay-bits .ensures) (c .before .before .before .before .before .before .lay-soft .ensures) _ (c .before .before .before .sent .ensures) (a .moves) v em
 
 pub frame-at-spec : {M : Type 1} → statement M
 frame-at-spec =
@@ -59,7 +59,7 @@ frame-at-spec =
     add-lay-soft
     lay-soft-requires
     sent-requires
-    add-t21
     add-t22
+    add-t23
     (λ c. search needs)
     returns)

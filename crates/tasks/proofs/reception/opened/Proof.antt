@@ -23,4 +23,4 @@ returns c = (
 )
 
 pub opened-spec : {M : Type 1} → statement M
-opened-spec = tie.close (tie.spec (λ c κs. search needs) returns)
+opened-spec = tie.close (tie.spec (λ c κs. search needs) (λ c κs. search needs) returns)

@@ -1,0 +1,32 @@
+// What `slips` prints.
+ghost use mathlib.Core.Path.{_≡_};
+ghost use Rattle.texts.specs.Text.{lineOf};
+ghost use Rattle.lines.specs.Text.{slipText, slipsEndText};
+use crate::listing::end_words;
+use texts::Line;
+use texts::empty;
+use texts::with_number;
+use texts::with_signed;
+use texts::with_word;
+
+// A frame's moves: of its front, its second and its third segment.
+pub fn slip_line(offset: u64, front: i64, second: i64, third: i64) -> Line
+    ensures { λ r. ⌜ r ≡ lineOf (slipText offset front second third) ⌝ }
+{
+    let l0 = empty();
+    let l1 = with_word(l0, b"slip");
+    let l2 = with_number(l1, offset);
+    let l3 = with_signed(l2, front);
+    let l4 = with_signed(l3, second);
+    let l5 = with_signed(l4, third);
+    with_word(l5, b"\n")
+}
+
+// The last line: the frames, the slips and the net slip.
+pub fn slips_end_line(frames: u64, slips: u64, net: i64) -> Line
+    ensures { λ r. ⌜ r ≡ lineOf (slipsEndText frames slips net) ⌝ }
+{
+    let words = end_words(frames, slips);
+    let counts = with_signed(words, net);
+    with_word(counts, b"\n")
+}
