@@ -3,3 +3,4 @@ pub mod BigEndian
 pub mod Polynomials
 pub mod Refusals
 pub mod Alls
+pub mod Sizes

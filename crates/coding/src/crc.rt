@@ -2,7 +2,7 @@
 ghost use mathlib.Core.Path.{_≡_};
 ghost use Prim.Native.Nat.{_-_};
 ghost use Rattle.bits.specs.Bit.{digit};
-ghost use Rattle.coding.specs.Crc.{crcRun, crcOf};
+ghost use Rattle.coding_rules.specs.Crc.{crcRun, crcOf};
 
 // The eight bits of a byte, highest first, at once: the low byte of the register moves up, and the joined high byte leaves its remainder.
 fn crc_byte(register: u16, x: u8) -> u16

@@ -1,7 +1,6 @@
-// The coding of a word into the 384 bits of an envelope and back, and CRC-16.
+// The code of scrambling a word into the 384 bits of an envelope and back, and of CRC-16. What they mean is defined in crate `coding_rules`.
 ghost use mathlib.Core.Path.{_≡_};
-ghost use Rattle.coding.specs.Markers.{theMarkers};
-ghost use Rattle.coding.specs.Statements.{CrcMeaning, ScramblingLaws};
+ghost use Rattle.coding_rules.specs.Markers.{theMarkers};
 
 mod crc;
 mod scrambling;
@@ -19,13 +18,3 @@ pub fn markers() -> [u16; 3]
 {
     MARKERS
 }
-
-// CRC-16 means the remainder of a division of polynomials.
-pub fn crc_meaning()
-    ensures { λ _. ⌜ CrcMeaning ⌝ }
-{}
-
-// Scrambling and descrambling undo each other.
-pub fn scrambling_laws()
-    ensures { λ _. ⌜ ScramblingLaws ⌝ }
-{}

@@ -3,10 +3,10 @@ ghost use mathlib.Core.Path.{_≡_};
 ghost use Prim.Native.Nat.{_+_, _-_, _*_, _/_, _%_, _<_};
 ghost use lib.ListN.{length, getD};
 ghost use Rattle.bits.specs.Bit.{digit, number, tab};
-ghost use Rattle.coding.specs.Calls.{sizeAnswer, afterDescramble, afterScramble};
-ghost use Rattle.coding.specs.Markers.{theMarkers, marker};
-ghost use Rattle.coding.specs.Scramble.{descrambled, envelopeByte, scrambled};
-ghost use Rattle.coding.specs.Sequence.{keyByte, turnedByte};
+ghost use Rattle.coding_rules.specs.Calls.{sizeAnswer, afterDescramble, afterScramble};
+ghost use Rattle.coding_rules.specs.Markers.{theMarkers, marker};
+ghost use Rattle.coding_rules.specs.Scramble.{descrambled, envelopeByte, scrambled};
+ghost use Rattle.coding_rules.specs.Sequence.{keyByte, turnedByte};
 use bits::Refusal;
 use bits::Writing;
 

@@ -1,7 +1,9 @@
 pub mod RefusedSizes
 pub mod RefusedPushes
 pub mod RefusedFrames
+pub mod OnlyJoint
 pub mod Starred
 pub mod Payloads
 pub mod Locks
 pub mod Searching
+pub mod Carried

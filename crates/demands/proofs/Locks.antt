@@ -12,7 +12,7 @@ use Rattle.sync.specs.declared.Synchroniser.{Synchroniser}
 use Rattle.sync.specs.View.{view}
 use Rattle.sync_steps.specs.Answers.{answerTo, pushOf}
 use Rattle.sync_steps.specs.Feeds.{FedOut, oneMore, unlessSent, unlessRefused, fedOf}
-use Rattle.sync.specs.Calls.{Call, pushing, feeding, answerOf, Meets}
+use Rattle.sync_call_rules.specs.Calls.{Call, pushing, feeding, answerOf, Meets}
 use Rattle.sync_rules.specs.State.{State, Input}
 use Rattle.sync_rules.specs.Frames.{Frame}
 use Rattle.sync_rules.specs.Pushes.{step}

@@ -18,22 +18,22 @@ use Rattle.bits.proofs.Conds.{cond-lt, cond-ge}
 use Rattle.bits.proofs.Digits.{number-ext}
 use Rattle.bits.proofs.Tabs.{tab-ext}
 use Rattle.bits.proofs.Xor.{bit-cases}
-use Rattle.coding.specs.Scramble.{descrambled, scrambled}
-use Rattle.protected.specs.Checksum.{checksum, inputBit, inputOf}
-use Rattle.protected.specs.Table.{Admitted, admits}
-use Rattle.protected.specs.Word.{Payload, frontByte, front}
-use Rattle.protected.proofs.Admission.{admits-admitted, admitted-admits}
-use Rattle.protected.proofs.InputBits.{crc8-ext}
-use Rattle.trials.specs.declared.Stage.{Stage}
-use Rattle.trials.specs.declared.Decoded.{Decoded}
-use Rattle.trials.specs.declared.Decoding.the-variants.{Accepted, Refused}
-use Rattle.trials.specs.Calls.{encodeAnswer, encodeLeaves, answered, refusedBy, decodeAnswer}
-use Rattle.trials.specs.Encoded.{joined, encodedWord}
-use Rattle.trials.specs.Hard.{decodedWord}
-use Rattle.trials.specs.Statements.{RoundTrip, Encodes, ExactDistance, Injective}
-use Rattle.trials.specs.Trial.{Outcome}
-use Rattle.trials.proofs.ComesBack.{there-again}
-use Rattle.demands.specs.Demand2.{accepted, cleared, Differs, Demand2, ComesBack, HasEncoding}
+use Rattle.coding_rules.specs.Scramble.{descrambled, scrambled}
+use Rattle.protected_rules.specs.Checksum.{inputOf}
+use Rattle.protected_rules.specs.Table.{Admitted, admits}
+use Rattle.protected_rules.specs.Word.{Payload, frontByte, front}
+use Rattle.protected_rules.proofs.Admission.{admits-admitted, admitted-admits}
+use Rattle.protected_rules.proofs.InputBits.{input-ext}
+use Rattle.voice_rules.specs.declared.Stage.{Stage}
+use Rattle.voice_rules.specs.declared.Decoded.{Decoded}
+use Rattle.voice_rules.specs.declared.Decoding.the-variants.{Accepted, Refused}
+use Rattle.voice_rules.specs.Calls.{encodeAnswer, encodeLeaves, answered, refusedBy, decodeAnswer}
+use Rattle.voice_rules.specs.Encoded.{joined, encodedWord}
+use Rattle.voice_rules.specs.Hard.{decodedWord}
+use Rattle.voice_rules.specs.Statements.{RoundTrip, Encodes, ExactDistance, Injective}
+use Rattle.voice_rules.specs.Trial.{Outcome}
+use Rattle.voice_rules.proofs.ComesBack.{there-again}
+use Rattle.demands.specs.Demand2.{accepted, cleared, Differs, Demand2, EncodedAndDecoded, DecodedAndEncoded}
 
 -- ---- the top two bits of byte 19
 
@@ -63,16 +63,8 @@ module _ (p q : List ℕ) (same : (i : ℕ) → i < 158 → bitLo p i ≡ bitLo 
       cond-same k 16 0 0 _ _ (λ m. refl) (λ m.
       cond-same k 21 _ _ 0 0 (λ n. number-ext 8 _ _ (λ j o. same (118 + (8 * (k - 16) + j)) (omega arith))) (λ n. refl))))
 
-  checksum-same : checksum p ≡ checksum q
-  checksum-same = crc8-ext (bitLo p) (bitLo q) (λ i h. same i (omega arith))
-
   input-same : inputOf p ≡ inputOf q
-  unfolding inputOf inputBit
-  input-same =
-      tab-ext 94 (inputBit p) (inputBit q) (λ i h.
-      cond-same i 4 _ _ _ _ (λ l. ap (λ (c : ℕ). digit c i) checksum-same) (λ l.
-      cond-same i 82 _ _ _ _ (λ m. same (i - 4) (omega arith)) (λ m.
-      cond-same i 86 _ _ 0 0 (λ n. ap (λ (c : ℕ). digit c (i - 78)) checksum-same) (λ n. refl))))
+  input-same = input-ext p q (λ i h. same i (omega arith))
 
   word-same : (table : List ℕ) (flag : ℕ) → encodedWord table p flag ≡ encodedWord table q flag
   unfolding encodedWord
@@ -191,25 +183,31 @@ demand-two r exact inj =
 
 -- ---- of the calls themselves
 
-pub calls-come-back : RoundTrip → (table p : List ℕ) (a : Bool) (e e′ : List ℕ) (r : Decoded) → e′ ≡ encodeLeaves table p a e → r ≡ decodeAnswer table e′ → ComesBack table p e r
-calls-come-back round table p a e e′ r left answer t q h = answer ∙ ap (decodeAnswer table) left ∙ round .hard table t p q a e h
+pub encoded-and-decoded : RoundTrip → (table p : List ℕ) (a : Bool) (e e′ : List ℕ) (r : Decoded) → e′ ≡ encodeLeaves table p a e → r ≡ decodeAnswer table e′
+    → EncodedAndDecoded table p a e e′ r
+encoded-and-decoded round table p a e e′ r left answer =
+    record { leaves = left; answer = answer; comes-back = λ t q h. answer ∙ ap (decodeAnswer table) left ∙ round .hard table t p q a e h }
 
-pub calls-have-encoding : ExactDistance → (table e plain other plain′ other′ : List ℕ) (r : Decoded) → r ≡ decodeAnswer table e
-    → plain′ ≡ encodeLeaves table (r .payload) false plain → other′ ≡ encodeLeaves table (r .payload) true other
-    → HasEncoding e plain other plain′ other′ r
-calls-have-encoding exact table e plain other plain′ other′ r answer first second s n p is h k =
-    let x = exactly-left exact table e s n p (sym answer ∙ is) in
-    go (x .1 .0) (x .1 .1)
-  where
-    same : r .payload ≡ p
-    same = ap (λ (d : Decoded). d .payload) is
+module _ (exact : ExactDistance) (table e plain other plain′ other′ : List ℕ) (r : Decoded) (answer : r ≡ decodeAnswer table e)
+    (first : plain′ ≡ encodeLeaves table (r .payload) false plain) (second : other′ ≡ encodeLeaves table (r .payload) true other) where
+  one-is-near : (s : Stage) (n : ℕ) (p : List ℕ) → r ≡ accepted s n p → length plain ≡ 48 → length other ≡ 48
+      → Differs (descrambled plain′) (descrambled e) n ⊎ Differs (descrambled other′) (descrambled e) n
+  one-is-near s n p is h k =
+      let x = exactly-left exact table e s n p (sym answer ∙ is) in
+      go (x .1 .0) (x .1 .1)
+    where
+      same : r .payload ≡ p
+      same = ap (λ (d : Decoded). d .payload) is
 
-    near : (a : Bool) (room room′ : List ℕ) → room′ ≡ encodeLeaves table (r .payload) a room → Differs (descrambled (encodeLeaves table p a room)) (descrambled e) n
-        → Differs (descrambled room′) (descrambled e) n
-    near a room room′ left d =
-        subst (λ (l : List ℕ). Differs (descrambled l) (descrambled e) n) (sym (left ∙ ap (λ (q : List ℕ). encodeLeaves table q a room) same)) d
+      near : (a : Bool) (room room′ : List ℕ) → room′ ≡ encodeLeaves table (r .payload) a room → Differs (descrambled (encodeLeaves table p a room)) (descrambled e) n
+          → Differs (descrambled room′) (descrambled e) n
+      near a room room′ left d =
+          subst (λ (l : List ℕ). Differs (descrambled l) (descrambled e) n) (sym (left ∙ ap (λ (q : List ℕ). encodeLeaves table q a room) same)) d
 
-    go : (a : Bool) → ((room : List ℕ) → length room ≡ 48 → Differs (descrambled (encodeLeaves table p a room)) (descrambled e) n)
-        → Differs (descrambled plain′) (descrambled e) n ⊎ Differs (descrambled other′) (descrambled e) n
-    go false f = inl (near false plain plain′ first (f plain h))
-    go true f = inr (near true other other′ second (f other k))
+      go : (a : Bool) → ((room : List ℕ) → length room ≡ 48 → Differs (descrambled (encodeLeaves table p a room)) (descrambled e) n)
+          → Differs (descrambled plain′) (descrambled e) n ⊎ Differs (descrambled other′) (descrambled e) n
+      go false f = inl (near false plain plain′ first (f plain h))
+      go true f = inr (near true other other′ second (f other k))
+
+  pub decoded-and-encoded : DecodedAndEncoded table e plain other plain′ other′ r
+  decoded-and-encoded = record { answer = answer; leaves-plain = first; leaves-other = second; has-encoding = one-is-near }

@@ -11,22 +11,22 @@ use borrow.Author.Tests.{lt-ltb}
 use Rattle.bits.specs.declared.Refusal.the-variants.{Stream, Offset, Positions, Size, Record}
 use Rattle.bits.specs.declared.Writing.{Writing}
 use Rattle.bits.specs.declared.Writing.the-variants as writing
-use Rattle.journal.specs.Record.{allowed, sizeFits, entryAt, recordOf, leftBy, writeAnswer, Wrote}
-use Rattle.journal.specs.Reading.{isFrame, isGap, offsetIn, lengthIn, figuresIn, readOf}
-use Rattle.journal.specs.declared.Body.{Body}
-use Rattle.journal.specs.declared.Body.the-variants.{Frame, Gap}
-use Rattle.journal.specs.declared.Entry.{Entry}
-use Rattle.journal.specs.declared.Reading.the-variants as reading
+use Rattle.journal_rules.specs.Record.{allowed, sizeFits, entryAt, recordOf, leftBy, writeAnswer, Wrote}
+use Rattle.journal_rules.specs.Reading.{isFrame, isGap, offsetIn, lengthIn, figuresIn, readOf}
+use Rattle.journal_rules.specs.declared.Body.{Body}
+use Rattle.journal_rules.specs.declared.Body.the-variants.{Frame, Gap}
+use Rattle.journal_rules.specs.declared.Entry.{Entry}
+use Rattle.journal_rules.specs.declared.Reading.the-variants as reading
 use Rattle.merger_rules.specs.Merging.{View, view, isLate, isNear, heldOf, homeOf, orderOf, taken, filled, alone, noPosition, insertAt, PushStep, pushStep, putOf, pushOf}
 use Rattle.merger.specs.States.{viewOf, PushGave}
 use Rattle.merger.specs.declared.AfterPush.{AfterPush}
 use Rattle.merger_rules.specs.declared.Held.{Held}
 use Rattle.merger.specs.declared.Merger.{Merger}
 use Rattle.merger_rules.specs.declared.Position.{Position}
-use Rattle.merger_rules.specs.declared.Pushed.{Pushed}
-use Rattle.merger_rules.specs.declared.Pushed.the-variants.{Kept, Double, Late, Refused}
+use Rattle.merger_rules.specs.declared.Keeping.{Keeping}
+use Rattle.merger_rules.specs.declared.Keeping.the-variants.{Kept, Double, Late, Refused}
 use Rattle.sync_rules.specs.declared.Head.{Head}
-use Rattle.demands.specs.Demand1.{test, badStream, highOffset, late, belongs, firstNumber, Refuses, MergerRefuses, saysLate, numberInMerging, numberInWriting, numberInReading, badRecord, envelopeTests, WritingRefuses, ReadingRefuses}
+use Rattle.demands.specs.Demand1.{test, badStream, highOffset, late, belongs, firstNumber, Refuses, MergerRefuses, saysLate, numberInKeeping, numberInWriting, numberInReading, badRecord, envelopeTests, WritingRefuses, ReadingRefuses}
 
 -- ---- the merger
 
@@ -48,7 +48,7 @@ abbrev PushedBy : Bool → Bool → Bool → View → PushStep → PushStep
 PushedBy a b c v put = cond a (pushStep (Refused Stream) v) (cond b (pushStep (Refused Offset) v) (cond c (pushStep Late v) put))
 
 merger-cases : (a b c h t f : Bool) (v w u : View)
-    → numberInMerging (PushedBy a b c v (PutBy h t f v w u) .answer) ≡ firstNumber (test 7 a ∷ test 8 b ∷ test 0 c ∷ test 9 (f && not h) ∷ [])
+    → numberInKeeping (PushedBy a b c v (PutBy h t f v w u) .answer) ≡ firstNumber (test 7 a ∷ test 8 b ∷ test 0 c ∷ test 9 (f && not h) ∷ [])
 unfolding firstNumber
 merger-cases true b c h t f v w u = refl
 merger-cases false true c h t f v w u = refl
@@ -75,10 +75,10 @@ late-cases false false true v put n = refl
 late-cases false false false v put n = n
 
 -- what is kept is neither refused nor late
-kept-number : (a : Pushed) → a ≡ Kept → numberInMerging a ≡ 0
-kept-number a e = ap numberInMerging e
+kept-number : (a : Keeping) → a ≡ Kept → numberInKeeping a ≡ 0
+kept-number a e = ap numberInKeeping e
 
-kept-not-late : (a : Pushed) → saysLate a ≡ true → a ≡ Kept → ⊥
+kept-not-late : (a : Keeping) → saysLate a ≡ true → a ≡ Kept → ⊥
 kept-not-late a l e = let z : false ≡ true = sym (ap saysLate e) ∙ l in true≢false (sym z)
 
 module _ (m : Merger) (stream : ℕ) (figures : Head) (number : ℕ) (check : Bool) (r : AfterPush)
@@ -116,7 +116,7 @@ module _ (m : Merger) (stream : ℕ) (figures : Head) (number : ℕ) (check : Bo
         refuses =
             record {
               exactly =
-                  ap numberInMerging (gave .answers)
+                  ap numberInKeeping (gave .answers)
                   ∙ merger-cases (ltb 1 stream) (ltb (2 ^ 42) At) (isLate (m .last) At) HasHome Taken Full Was Joined Opened
                   ∙ ap (λ (h : Bool). firstNumber (badStream stream ∷ highOffset At ∷ late (m .last) At ∷ test 9 (Full && not h) ∷ [])) (home-belongs At (Was .pending));
               as-before = λ z. gave .kept (λ k. z (kept-number (r .answer) k));

@@ -13,15 +13,16 @@ use Rattle.bits.specs.declared.Refusal.the-variants.{Dibit, FrameRoom, StreamEn
 use Rattle.sync_steps.specs.Answers.{answerTo, pushOf, takes}
 use Rattle.sync.specs.Answers.{PushedBy}
 use Rattle.sync_steps.specs.Feeds.{FedOut, fedOf}
-use Rattle.sync.specs.Feeds.{FedBy, FeedRule}
-use Rattle.sync_steps.specs.Steps.{headsOf}
+use Rattle.sync_call_rules.specs.Feeds.{FeedRule}
+use Rattle.sync.specs.Feeds.{FedBy}
+use Rattle.sync_frames.specs.Frames.{headsOf}
 use Rattle.sync.specs.View.{view}
 use Rattle.sync.specs.declared.Fed.{Fed}
 use Rattle.sync_steps.specs.declared.Push.{Push}
 use Rattle.sync_steps.specs.declared.Push.the-variants.{Taken, Refused}
 use Rattle.sync.specs.declared.Pushed.{Pushed}
 use Rattle.sync.specs.declared.Synchroniser.{Synchroniser}
-use Rattle.sync.proofs.Feeding.{feed-rules}
+use Rattle.sync_call_rules.proofs.Feeding.{feed-rules}
 use Rattle.sync_rules.specs.Frames.{Frame}
 use Rattle.sync_rules.specs.Pushes.{run}
 use Rattle.sync_rules.specs.Room.{laid}

@@ -11,19 +11,19 @@ use lib.ListN.{length, take, drop, length-drop, take-append-drop}
 use borrow.Author.Tests.{eq-eqb, eqb-true}
 use Rattle.bits.specs.declared.Refusal.the-variants.{Size, Table, Erasure}
 use Rattle.bits.specs.declared.Writing.the-variants as writing
-use Rattle.coding.specs.Calls.{sizeAnswer, afterDescramble, afterScramble}
-use Rattle.coding.specs.Scramble.{descrambled, scrambled}
-use Rattle.protected.specs.Table.{admits}
-use Rattle.tail.specs.Calls.{erasable, answerOf, writtenOver, tailAnswer, tailLeaves, wordAnswer, wordLeaves}
-use Rattle.tail_making.specs.Encode as making
-use Rattle.tail.specs.Repair.{Answer, refused, repaired, repairOf}
-use Rattle.tail.specs.declared.Repairing.{Repairing}
-use Rattle.tail.specs.declared.Repairing.the-variants as repairing
-use Rattle.trials.specs.Calls.{encodeAnswer, encodeLeaves, refusedBy, answered, decodeAnswer, softAnswer, noPayload}
-use Rattle.trials.specs.Encoded.{encodedWord}
-use Rattle.trials.specs.Hard.{decodedWord}
-use Rattle.trials.specs.Soft.{softlyDecodedWord}
-use Rattle.trials.specs.Trial.{Outcome, heard, silent}
+use Rattle.coding_rules.specs.Calls.{sizeAnswer, afterDescramble, afterScramble}
+use Rattle.coding_rules.specs.Scramble.{descrambled, scrambled}
+use Rattle.protected_rules.specs.Table.{admits}
+use Rattle.tail_rules.specs.Calls.{erasable, answerOf, writtenOver, tailAnswer, tailLeaves, wordAnswer, wordLeaves}
+use Rattle.tail_rules.specs.Encode as making
+use Rattle.tail_rules.specs.Repair.{Answer, refused, repaired, repairOf}
+use Rattle.tail_rules.specs.declared.Repairing.{Repairing}
+use Rattle.tail_rules.specs.declared.Repairing.the-variants as repairing
+use Rattle.voice_rules.specs.Calls.{encodeAnswer, encodeLeaves, refusedBy, answered, decodeAnswer, softAnswer, noPayload}
+use Rattle.voice_rules.specs.Encoded.{encodedWord}
+use Rattle.voice_rules.specs.Hard.{decodedWord}
+use Rattle.voice_rules.specs.Soft.{softlyDecodedWord}
+use Rattle.voice_rules.specs.Trial.{Outcome, heard, silent}
 use Rattle.demands.specs.Demand1.{Test, test, isSilent, isRefused, firstNumber, Refuses, numberInWriting, numberInRepairing, numberInDecoding, badErasure, noRepair, ScramblingRefuses, TailRefuses, WordRefuses, MakingRefuses, EncodingRefuses, DecodingRefuses}
 
 -- ---- word and envelope

@@ -13,8 +13,8 @@ use Rattle.sync.specs.declared.Synchroniser.{Synchroniser}
 use Rattle.sync_steps.specs.declared.Push.the-variants.{Taken}
 use Rattle.sync.specs.View.{view}
 use Rattle.sync_steps.specs.Answers.{answerTo}
-use Rattle.sync.specs.Calls.{Call, History, stateOf, accepted, Got, handed, shownAs, streamOf, placeIn, lastGot, firstGot, gotInARow}
-use Rattle.sync.specs.Statements.{callsFollow, demandCalls, movesGot, moveCalls}
+use Rattle.sync_call_rules.specs.Calls.{Call, History, stateOf, accepted, Got, handed, shownAs, streamOf, placeIn, lastGot, firstGot, gotInARow}
+use Rattle.sync_call_rules.specs.Statements.{callsFollow, demandCalls, movesGot, moveCalls}
 use Rattle.sync_rules.specs.Slips.{SlippedBy, netOfAll, slipsOfAll}
 use Rattle.sync_rules.specs.Matching.{errors}
 use Rattle.sync_rules.specs.Moves.{noMoves}

@@ -3,31 +3,31 @@
 use mathlib.Core.Bool.{true, false, cond}
 use mathlib.Core.List.{List, [], _∷_, _++_, map}
 use mathlib.Core.Path.{_≡_, refl, sym, ap, _∙_}
-use Prim.Native.Nat.{ℕ, _+_, _-_, _*_, _/_, _%_, _≤_, _<_}
+use Prim.Native.Nat.{ℕ, _+_, _-_, _*_, _/_, _≤_, _<_}
 use native.Mathlib.Omega.{arith}
 use lib.Count.{ones, onesIn}
-use lib.Bits.{bitXor}
 use lib.Dec.{leb}
 use lib.ListN.{length, getD, set, take, drop, take-append-drop}
 use borrow.Author.Tests.{eq-eqb}
 use Rattle.bits.specs.Alls.{All}
 use Rattle.bits.specs.Bit.{tab}
 use Rattle.bits.specs.declared.Refusal.the-variants.{Table}
-use Rattle.coding.specs.Crc.{crcRun, crcStep}
-use Rattle.coding.specs.Scramble.{s, descrambled}
-use Rattle.field.specs.Field.{product}
+use Rattle.coding_rules.specs.Crc.{crcRun, crcStep}
+use Rattle.coding_rules.specs.Scramble.{s, descrambled}
+use Rattle.field_rules.specs.Field.{product}
 use Rattle.merger_rules.proofs.Snaps.{snap-far, snap-one, snap-grid}
-use Rattle.protected.proofs.Admission.{admits-admitted, admitted-admits}
-use Rattle.protected.proofs.Examples.{stand-in-admitted, replaced-refused, last-bit}
-use Rattle.protected.specs.StandIn.{standIn}
-use Rattle.protected.specs.Table.{count}
+use Rattle.protected_rules.proofs.Admission.{admits-admitted, admitted-admits}
+use Rattle.protected_rules.proofs.Examples.{stand-in-admitted, replaced-refused, last-bit}
+use Rattle.protected_rules.specs.StandIn.{standIn}
+use Rattle.protected_rules.specs.Table.{count}
 use Rattle.sync_rules.specs.Matching.{spell, differing, markerBits, sixteen, matches, errors}
-use Rattle.trials.specs.Calls.{encodeAnswer, decodeAnswer, softAnswer, answered}
-use Rattle.trials.specs.Candidate.{modeApart, lowFlag, trial}
-use Rattle.trials.specs.Hard.{hardTrial, jointTests, jointTrial, trialsBy, hardTrials, decodedWord}
-use Rattle.trials.specs.Trial.{Measure, measure, passes, Trial, Verdict, speech, fails, judged, verdict, silent, orElse, firstOf}
-use Rattle.trials.specs.declared.Test.the-variants.{ModeBits}
-use Rattle.demands.specs.Examples.{Example, Holds, starred, codes, admitted, refusal, snaps, joint, jointless, OnlyJointLeft, ungated}
+use Rattle.voice_rules.specs.Calls.{encodeAnswer, decodeAnswer, softAnswer, answered}
+use Rattle.voice_rules.specs.Candidate.{modeApart, lowFlag, trial}
+use Rattle.voice_rules.specs.Hard.{hardTrial, jointTests, jointTrial, trialsBy, hardTrials, decodedWord}
+use Rattle.voice_rules.specs.Trial.{Measure, measure, passes, Trial, Verdict, speech, fails, judged, verdict, silent, orElse, firstOf}
+use Rattle.voice_rules.specs.declared.Test.the-variants.{ModeBits}
+use Rattle.demands.specs.Examples.{Example, Holds, starred, codes, admitted, refusal, snaps, joint, jointless, OnlyJointLeft, Happens, ungated}
+use Rattle.demands.proofs.OnlyJoint.{modeBits, mode-is, happens}
 
 -- ---- tables
 
@@ -61,8 +61,8 @@ near d e a b f l =
 close : Holds (snaps 191 384)
 close l = let h : l < l + 191 = omega arith in let k : l + 191 - l < 192 = omega arith in snap-one l (l + 191) h k
 
-far : Holds (snaps 6144 6144)
-far l = let h : l < l + 6144 = omega arith in let k : 6144 ≤ l + 6144 - l = omega arith in snap-far l (l + 6144) h k
+far : (d : ℕ) → 6144 ≤ d → Holds (snaps d d)
+far d far-off l = let h : l < l + d = omega arith in let k : 6144 ≤ l + d - l = omega arith in snap-far l (l + d) h k
 
 -- ---- the gate before the joint trials
 
@@ -103,13 +103,9 @@ gated : (table word : List ℕ) → All (Opens (gate word)) (drop 4 (hardTrials 
 unfolding Opens gate hardTrials trialsBy jointTrial hardTrial trial jointTests
 gated table word = (refl, (refl, (refl, (refl, tt))))
 
--- the mode bits of a word with these bytes 32 and 33
-modeBits : ℕ → ℕ → ℕ
-modeBits a b = ones (bitXor a 0x80) + ones (bitXor b (b % 2))
-
 gate-is : (w : List ℕ) (a b : ℕ) → getD w 32 0 ≡ a → getD w 33 0 ≡ b → passes (gate w) ≡ leb (modeBits a b) 2
-unfolding gate modeApart modeBits
-gate-is w a b e f = rw (e, f)
+unfolding gate
+gate-is w a b e f = ap (λ (n : ℕ). leb n 2) (mode-is w a b e f)
 
 module _ (table envelope : List ℕ) where
   jointTrials : List Trial
@@ -123,17 +119,23 @@ module _ (table envelope : List ℕ) where
       let e : firstOf ts ≡ firstOf (drop 4 ts) = ap firstOf (sym (take-append-drop 4 ts)) ∙ after-silence (take 4 ts) (drop 4 ts) (h .nothing) in
       simp (eq-eqb (length envelope) 48 (h .sized), admitted-admits table (h .lent)) (ap answered e)
 
-tried : (a b : ℕ) → leb (modeBits a b) 2 ≡ true → Holds (joint a b)
+tried : (a b : ℕ) → Happens a b → leb (modeBits a b) 2 ≡ true → Holds (joint a b)
 unfolding jointTrials
-tried a b few table envelope h =
-    let w = descrambled envelope in
-    joint-answers table envelope h ∙ ap answered (gate-open (gate w) (gate-is w a b (h .has32) (h .has33) ∙ few) (jointTrials table envelope) (gated table w))
+tried a b met few = (
+  met,
+  λ table envelope h.
+      let w = descrambled envelope in
+      joint-answers table envelope h ∙ ap answered (gate-open (gate w) (gate-is w a b (h .has32) (h .has33) ∙ few) (jointTrials table envelope) (gated table w)),
+)
 
-untried : (a b : ℕ) → leb (modeBits a b) 2 ≡ false → Holds (jointless a b)
+untried : (a b : ℕ) → Happens a b → leb (modeBits a b) 2 ≡ false → Holds (jointless a b)
 unfolding jointTrials
-untried a b many table envelope h =
-    let w = descrambled envelope in
-    joint-answers table envelope h ∙ ap answered (gate-shut (gate w) (gate-is w a b (h .has32) (h .has33) ∙ many) (jointTrials table envelope) (gated table w))
+untried a b met many = (
+  met,
+  λ table envelope h.
+      let w = descrambled envelope in
+      joint-answers table envelope h ∙ ap answered (gate-shut (gate w) (gate-is w a b (h .has32) (h .has33) ∙ many) (jointTrials table envelope) (gated table w)),
+)
 
 -- ---- the list, a part at a time
 
@@ -145,16 +147,16 @@ markers-and-tables : All Holds (take 6 (drop 15 starred))
 unfolding matches errors spell differing markerBits sixteen tab standIn
 markers-and-tables = ((refl, refl), ((refl, refl), (last-input, (stand-in, (refl, (replaced, tt))))))
 
-merging : All Holds (take 7 (drop 21 starred))
+merging : All Holds (take 8 (drop 21 starred))
 merging =
     let b : Holds (snaps 575 384) = near 575 384 (omega arith) (omega arith) refl in
     let c : Holds (snaps 576 768) = near 576 768 (omega arith) (omega arith) refl in
     let d : Holds (snaps 6143 6144) = near 6143 6144 (omega arith) (omega arith) refl in
-    (refl, (refl, (close, (b, (c, (d, (far, tt)))))))
+    (refl, (refl, (close, (b, (c, (d, (far _ (omega arith), (far _ (omega arith), tt))))))))
 
-gates : All Holds (drop 28 starred)
+gates : All Holds (drop 29 starred)
 unfolding modeBits ones onesIn
-gates = (tried _ _ refl, (untried _ _ refl, tt))
+gates = (tried _ _ (happens _ _ (omega arith) (omega arith) refl) refl, (untried _ _ (happens _ _ (omega arith) (omega arith) refl) refl, tt))
 
 join : (xs ys : List Example) → All Holds xs → All Holds ys → All Holds (xs ++ ys)
 join [] ys a b = b
@@ -163,4 +165,4 @@ join (x ∷ xs) ys a b = (a .0, join xs ys (a .1) b)
 pub all-hold : All Holds starred
 all-hold =
     join (take 15 starred) (drop 15 starred) coding-layer
-    (join (take 6 (drop 15 starred)) (drop 21 starred) markers-and-tables (join (take 7 (drop 21 starred)) (drop 28 starred) merging gates))
+    (join (take 6 (drop 15 starred)) (drop 21 starred) markers-and-tables (join (take 8 (drop 21 starred)) (drop 29 starred) merging gates))

@@ -4,7 +4,7 @@
 -- of each kind of answer; what each call refuses; and `Demand1`, a field a call: what its contract promises refuses so.
 -- A field speaks of exactly the definitions that the call's contract cites: coding::descramble ensures that it answers `sizeAnswer` and leaves
 -- `afterDescramble`, Synchroniser::push ensures `PushedBy`. And crate demand_calls makes each call and promises the same of what it gave and left.
--- Where a name is from, the lines below say: Rattle.coding.specs.Calls is the file crates/coding/specs/Calls.antt, and what lies under `declared`
+-- Where a name is from, the lines below say: Rattle.coding_rules.specs.Calls is the file crates/coding/specs/Calls.antt, and what lies under `declared`
 -- is a type of the crate's src/.
 -- Inputs are not restricted: no call has a `requires` but its state's invariant, which every call that hands out a state ensures. What is lent
 -- only to be read no call can write. That a call ends is said nowhere: a function that may not end is not proved at all.
@@ -18,28 +18,28 @@ use lib.ListN.{length, getD, take, drop}
 use Rattle.bits.specs.Refusals.{numberOf}
 use Rattle.bits.specs.declared.Writing.{Writing}
 use Rattle.bits.specs.declared.Writing.the-variants as writing
-use Rattle.coding.specs.Calls.{sizeAnswer, afterDescramble, afterScramble}
-use Rattle.coding.specs.Scramble.{descrambled}
-use Rattle.journal.specs.Record.{allowed, Wrote}
-use Rattle.journal.specs.Reading.{isFrame, isGap, readOf}
-use Rattle.journal.specs.declared.Body.{Body}
-use Rattle.journal.specs.declared.Body.the-variants.{Frame, Gap}
-use Rattle.journal.specs.declared.Entry.{Entry}
-use Rattle.journal.specs.declared.Reading.{Reading}
-use Rattle.journal.specs.declared.Reading.the-variants as reading
+use Rattle.coding_rules.specs.Calls.{sizeAnswer, afterDescramble, afterScramble}
+use Rattle.coding_rules.specs.Scramble.{descrambled}
+use Rattle.journal_rules.specs.Record.{allowed, Wrote}
+use Rattle.journal_rules.specs.Reading.{isFrame, isGap, readOf}
+use Rattle.journal_rules.specs.declared.Body.{Body}
+use Rattle.journal_rules.specs.declared.Body.the-variants.{Frame, Gap}
+use Rattle.journal_rules.specs.declared.Entry.{Entry}
+use Rattle.journal_rules.specs.declared.Reading.{Reading}
+use Rattle.journal_rules.specs.declared.Reading.the-variants as reading
 use Rattle.merger_rules.specs.Merging.{isLate, isNear, heldOf, pushOf}
 use Rattle.merger.specs.States.{viewOf, PushGave}
 use Rattle.merger.specs.declared.AfterPush.{AfterPush}
 use Rattle.merger_rules.specs.declared.Clock.{Clock}
 use Rattle.merger.specs.declared.Merger.{Merger}
 use Rattle.merger_rules.specs.declared.Position.{Position}
-use Rattle.merger_rules.specs.declared.Pushed.{Pushed as Merging}
-use Rattle.merger_rules.specs.declared.Pushed.the-variants as merging
-use Rattle.protected.specs.Table.{Admitted, admits}
+use Rattle.merger_rules.specs.declared.Keeping.{Keeping}
+use Rattle.merger_rules.specs.declared.Keeping.the-variants as keeping
+use Rattle.protected_rules.specs.Table.{Admitted, admits}
 use Rattle.sync.specs.Answers.{PushedBy}
 use Rattle.sync.specs.Feeds.{FedBy}
 use Rattle.sync_steps.specs.Feeds.{fedOf, hardly, softly, unpacked}
-use Rattle.sync_steps.specs.Steps.{headsOf}
+use Rattle.sync_frames.specs.Frames.{headsOf}
 use Rattle.sync.specs.View.{view}
 use Rattle.sync.specs.declared.Fed.{Fed}
 use Rattle.sync_steps.specs.declared.Push.{Push}
@@ -49,18 +49,18 @@ use Rattle.sync.specs.declared.Synchroniser.{Synchroniser}
 use Rattle.sync_rules.specs.Pushes.{run}
 use Rattle.sync_rules.specs.State.{State, Input, hard}
 use Rattle.sync_rules.specs.declared.Head.{Head}
-use Rattle.tail.specs.Calls.{erasable, NotErasable, tailAnswer, tailLeaves, wordAnswer, wordLeaves}
-use Rattle.tail_making.specs.Encode as making
-use Rattle.tail.specs.Repair.{Answer, refused, repaired, Repairs, repairOf}
-use Rattle.tail.specs.declared.Repairing.{Repairing}
-use Rattle.tail.specs.declared.Repairing.the-variants as repairing
-use Rattle.trials.specs.Calls.{encodeAnswer, encodeLeaves, decodeAnswer, softAnswer, noPayload}
-use Rattle.trials.specs.Hard.{decodedWord}
-use Rattle.trials.specs.Soft.{softlyDecodedWord}
-use Rattle.trials.specs.Trial.{Outcome, heard, silent}
-use Rattle.trials.specs.declared.Decoded.{Decoded}
-use Rattle.trials.specs.declared.Decoding.{Decoding}
-use Rattle.trials.specs.declared.Decoding.the-variants as decoding
+use Rattle.tail_rules.specs.Calls.{erasable, NotErasable, tailAnswer, tailLeaves, wordAnswer, wordLeaves}
+use Rattle.tail_rules.specs.Encode as making
+use Rattle.tail_rules.specs.Repair.{Answer, refused, repaired, Repairs, repairOf}
+use Rattle.tail_rules.specs.declared.Repairing.{Repairing}
+use Rattle.tail_rules.specs.declared.Repairing.the-variants as repairing
+use Rattle.voice_rules.specs.Calls.{encodeAnswer, encodeLeaves, decodeAnswer, softAnswer, noPayload}
+use Rattle.voice_rules.specs.Hard.{decodedWord}
+use Rattle.voice_rules.specs.Soft.{softlyDecodedWord}
+use Rattle.voice_rules.specs.Trial.{Outcome, heard, silent}
+use Rattle.voice_rules.specs.declared.Decoded.{Decoded}
+use Rattle.voice_rules.specs.declared.Decoding.{Decoding}
+use Rattle.voice_rules.specs.declared.Decoding.the-variants as decoding
 
 -- ---- document 01, 'Numbered refusals': No., given exactly when
 
@@ -161,11 +161,11 @@ abbrev pub numberInPush : Push → ℕ
 numberInPush pushing.Taken = 0
 numberInPush (pushing.Refused r) = numberOf r
 
-abbrev pub numberInMerging : Merging → ℕ
-numberInMerging merging.Kept = 0
-numberInMerging merging.Double = 0
-numberInMerging merging.Late = 0
-numberInMerging (merging.Refused r) = numberOf r
+abbrev pub numberInKeeping : Keeping → ℕ
+numberInKeeping keeping.Kept = 0
+numberInKeeping keeping.Double = 0
+numberInKeeping keeping.Late = 0
+numberInKeeping (keeping.Refused r) = numberOf r
 
 abbrev pub numberInReading : Reading → ℕ
 numberInReading (reading.Holds entry) = 0
@@ -240,16 +240,16 @@ pub record FeedRefuses (s : Synchroniser) (inputs : List Input) (room : List ℕ
 abbrev pub late : Clock → ℕ → Test
 late last offset = test 0 (isLate last offset)
 
-abbrev pub saysLate : Merging → Bool
-saysLate merging.Kept = false
-saysLate merging.Double = false
-saysLate merging.Late = true
-saysLate (merging.Refused r) = false
+abbrev pub saysLate : Keeping → Bool
+saysLate keeping.Kept = false
+saysLate keeping.Double = false
+saysLate keeping.Late = true
+saysLate (keeping.Refused r) = false
 
 pub record MergerRefuses (m : Merger) (stream offset : ℕ) (r : AfterPush) : Type 0 where
   -- refused, the merger itself comes back
   pub refuses : Refuses (badStream stream ∷ highOffset offset ∷ late (m .last) offset ∷ noPosition offset (viewOf m .pending) ∷ [])
-      (numberInMerging (r .answer)) (r .merger ≡ m)
+      (numberInKeeping (r .answer)) (r .merger ≡ m)
   -- it says late exactly where neither 7 nor 8 is given and the frame is late, and then too the merger itself comes back
   pub says-late : saysLate (r .answer) ≡ (eqb (firstNumber (badStream stream ∷ highOffset offset ∷ [])) 0 && isLate (m .last) offset)
   pub late-back : saysLate (r .answer) ≡ true → r .merger ≡ m

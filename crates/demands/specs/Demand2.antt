@@ -1,8 +1,8 @@
 -- Demand 2: what is encoded comes back, and what is accepted has an encoding as near as it says.
 -- It speaks of what the calls promise: `voice_frame::encode` answers `encodeAnswer` and leaves `encodeLeaves` in the lent envelope,
--- `voice_frame::decode` answers `decodeAnswer`, `soft_frame::decode_soft` answers `softAnswer`.
+-- `voice_frame::decode` answers `decodeAnswer`, `voice_soft::decode_soft` answers `softAnswer`.
 -- Assumes nothing.
-use mathlib.Core.Bool.{Bool}
+use mathlib.Core.Bool.{Bool, true, false}
 use mathlib.Core.List.{List}
 use mathlib.Core.Logic.{_⊎_}
 use mathlib.Core.Path.{_≡_}
@@ -10,14 +10,14 @@ use Prim.Native.Nat.{ℕ, _%_, _<_, _≤_}
 use lib.ListN.{length, getD, set}
 use Rattle.bits.specs.Bit.{apart, Bytes}
 use Rattle.bits.specs.declared.Writing.the-variants.{Written}
-use Rattle.coding.specs.Scramble.{descrambled}
-use Rattle.protected.specs.Table.{Admitted}
-use Rattle.protected.specs.Word.{Payload}
-use Rattle.trials.specs.declared.Stage.{Stage}
-use Rattle.trials.specs.declared.Stage.the-variants.{StageA}
-use Rattle.trials.specs.declared.Decoded.{Decoded}
-use Rattle.trials.specs.declared.Decoding.the-variants.{Accepted}
-use Rattle.trials.specs.Calls.{encodeAnswer, encodeLeaves, decodeAnswer, softAnswer}
+use Rattle.coding_rules.specs.Scramble.{descrambled}
+use Rattle.protected_rules.specs.Table.{Admitted}
+use Rattle.protected_rules.specs.Word.{Payload}
+use Rattle.voice_rules.specs.declared.Stage.{Stage}
+use Rattle.voice_rules.specs.declared.Stage.the-variants.{StageA}
+use Rattle.voice_rules.specs.declared.Decoded.{Decoded}
+use Rattle.voice_rules.specs.declared.Decoding.the-variants.{Accepted}
+use Rattle.voice_rules.specs.Calls.{encodeAnswer, encodeLeaves, decodeAnswer, softAnswer}
 
 -- the answer that hands back a payload: the stage that accepted it, and the number of corrected bits that it reports
 abbrev pub accepted : Stage → ℕ → List ℕ → Decoded
@@ -65,13 +65,21 @@ pub record Demand2 : Type 0 where
 
 -- ---- the same of the calls themselves, made one after the other (crate demand_calls)
 
--- the answer r to decoding what a payload was encoded into
-abbrev pub ComesBack : List ℕ → List ℕ → List ℕ → Decoded → Type 0
-ComesBack table payload envelope r = Admitted table → Payload payload → length envelope ≡ 48 → r ≡ accepted StageA 0 payload
+-- A payload is encoded into a lent envelope, which then holds envelope′, and decoded from there with the answer r.
+pub record EncodedAndDecoded (table payload : List ℕ) (alternate : Bool) (envelope envelope′ : List ℕ) (r : Decoded) : Type 0 where
+  -- the envelope holds the encoding with this flag; where encoding refuses, what it held before
+  pub leaves : envelope′ ≡ encodeLeaves table payload alternate envelope
+  pub answer : r ≡ decodeAnswer table envelope′
+  -- the payload comes back with 0 corrections
+  pub comes-back : Admitted table → Payload payload → length envelope ≡ 48 → r ≡ accepted StageA 0 payload
 
--- the answer r to decoding an envelope, and what its payload's two encodings left of two lent envelopes of 48 bytes: one of them is as near as r says
-abbrev pub HasEncoding : List ℕ → List ℕ → List ℕ → List ℕ → List ℕ → Decoded → Type 0
-HasEncoding envelope plain other plain′ other′ r =
-    (stage : Stage) (corrected : ℕ) (payload : List ℕ)
-    → r ≡ accepted stage corrected payload → length plain ≡ 48 → length other ≡ 48
-    → Differs (descrambled plain′) (descrambled envelope) corrected ⊎ Differs (descrambled other′) (descrambled envelope) corrected
+-- An envelope is decoded with the answer r, and its payload encoded with flag 0 into one lent envelope and with flag 1 into another, which then
+-- hold plain′ and other′.
+pub record DecodedAndEncoded (table envelope plain other plain′ other′ : List ℕ) (r : Decoded) : Type 0 where
+  pub answer : r ≡ decodeAnswer table envelope
+  pub leaves-plain : plain′ ≡ encodeLeaves table (r .payload) false plain
+  pub leaves-other : other′ ≡ encodeLeaves table (r .payload) true other
+  -- where it is accepted, and both lent envelopes have 48 bytes, one of the two encodings is as near as r says
+  pub has-encoding : (stage : Stage) (corrected : ℕ) (payload : List ℕ)
+      → r ≡ accepted stage corrected payload → length plain ≡ 48 → length other ≡ 48
+      → Differs (descrambled plain′) (descrambled envelope) corrected ⊎ Differs (descrambled other′) (descrambled envelope) corrected

@@ -11,10 +11,10 @@ use lib.IntN.{pos, _+ℤ_}
 use lib.ListN.{length, getD, take, drop}
 use Rattle.sync.specs.declared.Synchroniser.{Synchroniser}
 use Rattle.sync_steps.specs.declared.Push.the-variants.{Taken}
-use Rattle.sync.specs.View.{Valid, view}
+use Rattle.sync.specs.View.{ValidSynchroniser, view}
 use Rattle.sync_steps.specs.Answers.{answerTo}
-use Rattle.sync.specs.Calls.{Call, History, stateOf, accepted, Got, handed, streamOf, placeIn, BeginsAt}
-use Rattle.sync.specs.Calls.{answerOf, Meets}
+use Rattle.sync_call_rules.specs.Calls.{Call, History, stateOf, accepted, Got, handed, streamOf, placeIn, BeginsAt}
+use Rattle.sync_call_rules.specs.Calls.{answerOf, Meets}
 use Rattle.sync_rules.specs.Matching.{locksAt, inPlace, errors}
 use Rattle.sync_rules.specs.Moves.{noMoves}
 use Rattle.sync_rules.specs.State.{Input, start, pending, slips, netSlip, bring}
@@ -24,11 +24,11 @@ use Rattle.sync_rules.specs.Demand.{stream, FirstLock}
 use Rattle.sync_rules.specs.Counts.{stateAfter, searched, everSoft, lockSent, between, total}
 use Rattle.sync_rules.specs.Statements.{LockRule}
 use Rattle.sync_rules.specs.Slips.{netOfAll, slipsOfAll, AllInRange}
-use Rattle.sync.specs.Statements.{movesGot}
+use Rattle.sync_call_rules.specs.Statements.{movesGot}
 
 -- what `Synchroniser::new` promises of the state that it hands out
 pub record New (s : Synchroniser) : Type 0 where
-  pub valid : Valid s
+  pub valid : ValidSynchroniser s
   pub fresh : view s ≡ start
 
 -- frame j of those handed out

@@ -10,18 +10,18 @@ use Rattle.bits.specs.Refusals.{numberOf}
 use Rattle.bits.specs.declared.Refusal.{Refusal}
 use Rattle.bits.specs.declared.Refusal.the-variants.{NoSpeech}
 use Rattle.bits.specs.declared.Writing.the-variants as writing
-use Rattle.coding.specs.Crc.{crcOf}
-use Rattle.coding.specs.Scramble.{place, s, descrambled}
-use Rattle.field.specs.Field.{product}
+use Rattle.coding_rules.specs.Crc.{crcOf}
+use Rattle.coding_rules.specs.Scramble.{place, s, descrambled}
+use Rattle.field_rules.specs.Field.{product}
 use Rattle.merger_rules.specs.declared.Clock.the-variants.{At}
 use Rattle.merger_rules.specs.Merging.{isLate, snapped}
-use Rattle.protected.specs.Convolution.{convolved}
-use Rattle.protected.specs.StandIn.{standIn}
-use Rattle.protected.specs.Table.{Admitted, count}
+use Rattle.protected_rules.specs.Convolution.{convolved}
+use Rattle.protected_rules.specs.StandIn.{standIn}
+use Rattle.protected_rules.specs.Table.{Admitted, count}
 use Rattle.sync_rules.specs.Matching.{matches, errors}
-use Rattle.trials.specs.Calls.{encodeAnswer, decodeAnswer, softAnswer, answered, refusedBy}
-use Rattle.trials.specs.Hard.{hardTrials}
-use Rattle.trials.specs.Trial.{Trial, Outcome, silent, firstOf}
+use Rattle.voice_rules.specs.Calls.{encodeAnswer, decodeAnswer, softAnswer, answered, refusedBy}
+use Rattle.voice_rules.specs.Hard.{hardTrials}
+use Rattle.voice_rules.specs.Trial.{Trial, Outcome, silent, firstOf}
 
 pub data Example : Type 0 where
   -- CRC-16 of these bytes is that
@@ -75,6 +75,10 @@ pub record OnlyJointLeft (table envelope : List ℕ) (byte32 byte33 : ℕ) : Typ
   pub has33 : getD (descrambled envelope) 33 0 ≡ byte33
   pub nothing : firstOf (take 4 (hardTrials table (descrambled envelope))) ≡ silent
 
+-- there is such an envelope: what is said of all of them is said of something
+abbrev pub Happens : ℕ → ℕ → Type 0
+Happens byte32 byte33 = (table : List ℕ) × ((envelope : List ℕ) × OnlyJointLeft table envelope byte32 byte33)
+
 -- a trial without its first test, which is for a joint trial the gate: "bytes 32-33 at most 2 bits from 0x80 and 0-or-1, else refuse"
 abbrev pub ungated : Trial → Trial
 ungated t = record { stage = t .stage; tests = drop 1 (t .tests); payload = t .payload; corrected = t .corrected }
@@ -97,8 +101,9 @@ Holds (admitted table) = Admitted table
 Holds (refusal table n) = (r : Refusal) × (numberOf r ≡ n) × TableRefused table r
 Holds (late last offset is) = isLate (At last) offset ≡ is
 Holds (snaps above released) = (last : ℕ) → snapped (At last) (last + above) ≡ last + released
-Holds (joint a b) = (table envelope : List ℕ) → OnlyJointLeft table envelope a b → decodeAnswer table envelope ≡ answered (jointly table envelope)
-Holds (jointless a b) = (table envelope : List ℕ) → OnlyJointLeft table envelope a b → decodeAnswer table envelope ≡ refusedBy NoSpeech
+Holds (joint a b) =
+    Happens a b × ((table envelope : List ℕ) → OnlyJointLeft table envelope a b → decodeAnswer table envelope ≡ answered (jointly table envelope))
+Holds (jointless a b) = Happens a b × ((table envelope : List ℕ) → OnlyJointLeft table envelope a b → decodeAnswer table envelope ≡ refusedBy NoSpeech)
 
 abbrev pub starred : List Example
 starred =
@@ -120,6 +125,8 @@ starred =
     ∷ late 1000 1192 true ∷ late 1000 1193 false
     -- snapping distance from the last release: 191 and 575 give 384; 576 gives 768; 6143 gives 6144; 6144 is not snapped
     ∷ snaps 191 384 ∷ snaps 575 384 ∷ snaps 576 768 ∷ snaps 6143 6144 ∷ snaps 6144 6144
+    -- 6144 is 16 times 384, so snapping would not move it either: 6145 shows that so far off nothing is snapped
+    ∷ snaps 6145 6145
     -- where (a) to (c) accept nothing: byte 32 = 0x83, byte 33 = 0: joint is tried; 0x87: refused
     ∷ joint 0x83 0 ∷ jointless 0x87 0
     ∷ []

@@ -7,11 +7,11 @@
 -- What it does not say: the bits found must still pass the checks behind the search (checksum, distance, tail), and the nearest may fail where others, further away, would
 -- pass. A decoder that lets the checks choose among several may therefore read a word that ours refuses. It speaks of the protected bits alone, and of no other nearness.
 -- Assumes nothing.
-use Rattle.path_rules.specs.Nearest.{NearestPath}
-use Rattle.trials.specs.Nearest.{NearestTried}
+use Rattle.voice_path_rules.specs.Nearest.{NearestPath}
+use Rattle.voice_rules.specs.Nearest.{NearestTried}
 
 pub record NoBetterPath : Type 0 where
-  -- of the calls `path::search_by` and `path::search`: for every admitted table, all received bits and all weights (crates/path_rules/specs/Nearest.antt)
+  -- of the calls `voice_path::search_by` and `voice_path::search`: for every admitted table, all received bits and all weights (crates/path_rules/specs/Nearest.antt)
   pub searches : NearestPath
-  -- of a decoding: what it tries after a search are these nearest bits, hard in stages (b), (c) and (d), and soft (crates/trials/specs/Nearest.antt)
+  -- of a decoding: what it tries after a search are these nearest bits, hard in stages (b), (c) and (d), and soft (crates/voice_rules/specs/Nearest.antt)
   pub decoding : NearestTried

@@ -15,26 +15,26 @@ pub fn demand_one()
 pub fn demand_two()
     ensures { λ _. ⌜ Demand2 ⌝ }
 {
-    trials::round_trip();
-    trials::exact_distance();
-    trials::injective();
+    voice_rules::round_trip();
+    voice_rules::exact_distance();
+    voice_rules::injective();
 }
 
 // Demand 3: silence before a lock, exact frames after it, and their offsets, over any history of calls.
 pub fn demand_three()
     ensures { λ _. ⌜ Demand3 ⌝ }
 {
-    sync::demand_three_of_calls();
+    sync_call_rules::demand_three_of_calls();
 }
 
 // Document 01's sentences on the synchroniser, after any history of calls.
 pub fn synchroniser_statements()
     ensures { λ _. ⌜ Statements ⌝ }
 {
-    sync::calls_follow_the_rules();
+    sync_call_rules::calls_follow_the_rules();
     sync::synchroniser_rules();
     sync_rules::gap_rule();
-    sync::moves_of_calls();
+    sync_call_rules::moves_of_calls();
 }
 
 // Document 01's starred examples, together.
@@ -46,6 +46,6 @@ pub fn starred_examples()
 pub fn no_better_path()
     ensures { λ _. ⌜ NoBetterPath ⌝ }
 {
-    path_rules::nearest_path();
-    trials::nearest_tried();
+    voice_path_rules::nearest_path();
+    voice_rules::nearest_tried();
 }

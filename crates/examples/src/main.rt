@@ -1,11 +1,13 @@
-// Runs document 01's examples that are not proved: examples TABLE. They are the catalogue's check value of CRC-16, and the hard answer for 383 reliabilities, on
-// a good frame, on one that the hard decoder corrects, and on one that it refuses and that 384 reliabilities get accepted. The listing's are stored cases of
-// `listing` and `cases`.
+// examples TABLE
+// Runs document 01's examples that are not proved.
+// They are the catalogue's check value of CRC-16, and the hard answer for 383 reliabilities, on a good frame, on one that the hard decoder corrects, and on one that
+// it refuses and that 384 reliabilities get accepted. The listing's are stored cases of `listing` and `stored_cases`.
+
 ghost use Prim.Native.Nat.{_<_, _≤_};
 ghost use lib.ListN.{length};
-use trials::Decoded;
-use trials::Decoding;
-use trials::Stage;
+use voice_rules::Decoded;
+use voice_rules::Decoding;
+use voice_rules::Stage;
 
 fn print_check_value() {
     io::write_all(1, b"check value ");
@@ -109,14 +111,14 @@ fn change_bytes(envelope: &mut [u8; 48], reliabilities: &mut [u8; 384], bytes: u
 fn with_one_fewer(table: &[u8], envelope: &[u8], reliabilities: &[u8]) -> Decoded
     requires { ⌜ 0 < length (now reliabilities) ⌝ }
 {
-    soft_frame::decode_soft(table, envelope, &reliabilities[1..])
+    voice_soft::decode_soft(table, envelope, &reliabilities[1..])
 }
 
 // The hard answer, that with 383 reliabilities, and that with 384.
 fn compare(table: &[u8], envelope: &[u8; 48], reliabilities: &[u8; 384]) {
     let hard = voice_frame::decode(table, envelope);
     let short = with_one_fewer(table, envelope, reliabilities);
-    let whole = soft_frame::decode_soft(table, envelope, reliabilities);
+    let whole = voice_soft::decode_soft(table, envelope, reliabilities);
     io::write_all(1, b" bits changed: hard ");
     print_answer(hard);
     io::write_all(1, b", 383 reliabilities ");

@@ -1,31 +1,36 @@
-// GF(256) over 0x11d: product, quotient and powers of 2, by two constant tables. The definitions, by polynomials, are in specs/Field.antt.
+// GF(256) over 0x11d: product, quotient and powers of 2, by two constant tables. The definitions, by polynomials, are in crate `field_rules`.
 // A constant is stored anew at each use. So each call has a form `.._by` to which its caller lends the tables: a caller with many
 // products makes them once. Both forms promise the same.
 ghost use mathlib.Core.Path.{_≡_};
 ghost use Prim.Native.Nat.{_<_, _≤_};
-ghost use Rattle.field.specs.Field.{product, quotient, power, Log, Powers, Logs};
-ghost use Rattle.field.specs.Statements.{FieldLaws};
+ghost use Rattle.field_rules.specs.Field.{product, quotient, power, Log};
+ghost use Rattle.field.specs.Lent.{Powers, Logs};
 
 mod tables;
 
 use tables::LOGS;
 use tables::POWERS;
 
-// The tables, to be lent to the calls below.
-pub fn powers() -> [u8; 510]
+// The tables that a caller lends to the calls below. The layers above pass them on by these names and know nothing of their length, so that a `field` with
+// smaller ones can stand in for this crate.
+pub type PowerTable = [u8; 510];
+
+pub type LogTable = [u8; 256];
+
+pub fn powers() -> PowerTable
     ensures { λ r. ⌜ Powers r ⌝ }
 {
     POWERS
 }
 
-pub fn logs() -> [u8; 256]
+pub fn logs() -> LogTable
     ensures { λ r. ⌜ Logs r ⌝ }
 {
     LOGS
 }
 
 // The logarithm of a byte other than 0.
-fn log(logs: &[u8; 256], a: u8) -> usize
+fn log(logs: &LogTable, a: u8) -> usize
     requires { ⌜ Logs (now logs) ⌝ }
     ensures { λ r. ⌜ Log a r ⌝ }
 {
@@ -33,7 +38,7 @@ fn log(logs: &[u8; 256], a: u8) -> usize
 }
 
 // The i-th power of 2, by the lent table.
-pub fn power_by(powers: &[u8; 510], i: usize) -> u8
+pub fn power_by(powers: &PowerTable, i: usize) -> u8
     requires { ⌜ Powers (now powers) ⌝ }
     ensures { λ r. ⌜ r ≡ power i ⌝ }
 {
@@ -41,7 +46,7 @@ pub fn power_by(powers: &[u8; 510], i: usize) -> u8
 }
 
 // a times b, by the lent tables.
-pub fn product_by(powers: &[u8; 510], logs: &[u8; 256], a: u8, b: u8) -> u8
+pub fn product_by(powers: &PowerTable, logs: &LogTable, a: u8, b: u8) -> u8
     requires { ⌜ Powers (now powers) ⌝ ∗ ⌜ Logs (now logs) ⌝ }
     ensures { λ r. ⌜ r ≡ product a b ⌝ }
 {
@@ -55,7 +60,7 @@ pub fn product_by(powers: &[u8; 510], logs: &[u8; 256], a: u8, b: u8) -> u8
 }
 
 // a times 2^e, by the lent tables: a logarithm and a test less than a product.
-pub fn times_power_by(powers: &[u8; 510], logs: &[u8; 256], a: u8, e: usize) -> u8
+pub fn times_power_by(powers: &PowerTable, logs: &LogTable, a: u8, e: usize) -> u8
     requires { ⌜ Powers (now powers) ⌝ ∗ ⌜ Logs (now logs) ⌝ ∗ ⌜ e ≤ 255 ⌝ }
     ensures { λ r. ⌜ r ≡ product a (power e) ⌝ }
 {
@@ -66,7 +71,7 @@ pub fn times_power_by(powers: &[u8; 510], logs: &[u8; 256], a: u8, e: usize) -> 
 }
 
 // a over b, and 0 where b is 0, by the lent tables.
-pub fn quotient_by(powers: &[u8; 510], logs: &[u8; 256], a: u8, b: u8) -> u8
+pub fn quotient_by(powers: &PowerTable, logs: &LogTable, a: u8, b: u8) -> u8
     requires { ⌜ Powers (now powers) ⌝ ∗ ⌜ Logs (now logs) ⌝ }
     ensures { λ r. ⌜ r ≡ quotient a b ⌝ }
 {
@@ -99,8 +104,3 @@ pub fn quotient(a: u8, b: u8) -> u8
 {
     quotient_by(&powers(), &logs(), a, b)
 }
-
-// The definitions are the textbook's field: one statement, in specs/Statements.antt.
-pub fn field_laws()
-    ensures { λ _. ⌜ FieldLaws ⌝ }
-{}

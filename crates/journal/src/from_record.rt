@@ -1,7 +1,7 @@
 // What a record says.
 ghost use mathlib.Core.Path.{_≡_};
 ghost use lib.ListN.{length};
-ghost use Rattle.journal.specs.Reading.{outcomeAt, readFrame, readGap, readOf};
+ghost use Rattle.journal_rules.specs.Reading.{outcomeAt, readFrame, readGap, readOf};
 use crate::Body;
 use crate::Entry;
 use crate::Figures;

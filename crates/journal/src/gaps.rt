@@ -1,6 +1,6 @@
 // The gap between a frame and the one before it.
 ghost use mathlib.Core.Path.{_≡_};
-ghost use Rattle.journal.specs.Gaps.{gapTo};
+ghost use Rattle.journal_rules.specs.Gaps.{gapTo};
 use crate::Between;
 use crate::Body;
 use crate::Earlier;

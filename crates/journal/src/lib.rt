@@ -1,6 +1,6 @@
 // The journal: records of 64 bytes, numbers high byte first, and the gaps between frames.
 // numbers.rt has the bytes of a number, to_record.rt and from_record.rt an entry's record, gaps.rt the rule for gaps.
-// The definitions are in specs/; each of the empty functions below promises one record of specs/Statements.antt.
+// What they give is defined in crate `journal_rules`, whose types are named here too.
 mod from_record;
 mod gaps;
 mod numbers;
@@ -8,64 +8,11 @@ mod to_record;
 
 pub use from_record::read;
 pub use gaps::gap_to;
+pub use journal_rules::Between;
+pub use journal_rules::Body;
+pub use journal_rules::Earlier;
+pub use journal_rules::Entry;
+pub use journal_rules::Figures;
+pub use journal_rules::Outcome;
+pub use journal_rules::Reading;
 pub use to_record::write;
-ghost use Rattle.journal.specs.Statements.{OneMeaning, Refusing, Unbroken};
-use bits::Refusal;
-
-// What became of a frame's envelope at the decoder.
-pub enum Outcome {
-    Untried,
-    Accepted,
-    Refused,
-}
-
-// What a journal says of a frame beside its offset and its envelope.
-pub struct Figures {
-    pub matched: bool,
-    pub errors: u8,
-    pub outcome: Outcome,
-    pub corrected: u8,
-}
-
-pub enum Body {
-    Frame(Figures),
-    Gap(u64),
-}
-
-pub struct Entry {
-    pub offset: u64,
-    pub body: Body,
-}
-
-// What a record says.
-pub enum Reading {
-    Holds(Entry),
-    Refused(Refusal),
-}
-
-// The offset of the frame before, if there is one.
-pub enum Earlier {
-    Nothing,
-    At(u64),
-}
-
-// What lies between a frame and the one before it.
-pub enum Between {
-    NoGap,
-    Gap(Entry),
-}
-
-// One meaning has one record, and one record has one meaning.
-pub fn one_meaning()
-    ensures { λ _. ⌜ OneMeaning ⌝ }
-{}
-
-// What is refused, by which number, and that nothing is written then.
-pub fn refusing()
-    ensures { λ _. ⌜ Refusing ⌝ }
-{}
-
-// Frames and the gaps between them follow each other without a break.
-pub fn unbroken()
-    ensures { λ _. ⌜ Unbroken ⌝ }
-{}

@@ -4,7 +4,7 @@ ghost use mathlib.Core.List.{_++_};
 ghost use Prim.Native.Nat.{_+_, _≤_};
 ghost use lib.ListN.{length, take, drop};
 ghost use Rattle.bits.specs.BigEndian.{valueOf};
-ghost use Rattle.journal.specs.Reading.{allZero};
+ghost use Rattle.journal_rules.specs.Reading.{allZero};
 use bits::wide;
 
 // The number of the eight bytes from `at` on, high byte first.

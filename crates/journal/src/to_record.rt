@@ -2,7 +2,7 @@
 ghost use mathlib.Core.Path.{_≡_};
 ghost use mathlib.Core.List.{[]};
 ghost use lib.ListN.{length};
-ghost use Rattle.journal.specs.Record.{Wrote, entryAt, recordOf, bitOf, outcomeNumber, mayCorrect};
+ghost use Rattle.journal_rules.specs.Record.{Wrote, entryAt, recordOf, bitOf, outcomeNumber, mayCorrect};
 use crate::Body;
 use crate::Entry;
 use crate::Figures;

@@ -1,9 +1,9 @@
 // What `listing` prints, and the line of what is refused.
 ghost use mathlib.Core.Path.{_≡_};
 ghost use Prim.Native.Nat.{_≤_};
-ghost use Rattle.texts.specs.Text.{lineOf};
-ghost use Rattle.journal.specs.Record.{bitOf};
-ghost use Rattle.lines.specs.Text.{frameWords, frameText, gapText, endWords, endText, refusedText};
+ghost use Rattle.texts_rules.specs.Text.{lineOf};
+ghost use Rattle.journal_rules.specs.Record.{bitOf};
+ghost use Rattle.lines_rules.specs.Text.{frameWords, frameText, gapText, endWords, endText, refusedText};
 use texts::Line;
 use texts::empty;
 use texts::with_number;
@@ -16,7 +16,7 @@ fn bit_number(b: bool) -> u64
 }
 
 // A frame by its offset, whether it matched, and its errors, with the line not yet ended.
-pub(crate) fn frame_words(offset: u64, matched: bool, errors: u64) -> Line
+pub fn frame_words(offset: u64, matched: bool, errors: u64) -> Line
     ensures size { λ r. ⌜ r .size ≤ 68 ⌝ }
     ensures text { λ r. ⌜ r ≡ lineOf (frameWords offset matched errors) ⌝ }
 {
@@ -65,7 +65,7 @@ pub fn end_line(a: u64, b: u64, c: u64) -> Line
 }
 
 // What is refused, by two numbers.
-pub(crate) fn refused_line(first: u64, second: u64) -> Line
+pub fn refused_line(first: u64, second: u64) -> Line
     ensures { λ r. ⌜ r ≡ lineOf (refusedText first second) ⌝ }
 {
     let l0 = empty();

@@ -1,8 +1,11 @@
 // What `slips` prints.
 ghost use mathlib.Core.Path.{_≡_};
-ghost use Rattle.texts.specs.Text.{lineOf};
-ghost use Rattle.lines.specs.Text.{slipText, slipsEndText};
+ghost use Rattle.texts_rules.specs.Text.{lineOf};
+ghost use Rattle.lines_rules.specs.Slips.{hasMove, slipLine};
+ghost use Rattle.lines_rules.specs.Text.{slipText, slipsEndText};
 use crate::listing::end_words;
+use sync_rules::Head;
+use sync_rules::Moves;
 use texts::Line;
 use texts::empty;
 use texts::with_number;
@@ -29,4 +32,26 @@ pub fn slips_end_line(frames: u64, slips: u64, net: i64) -> Line
     let words = end_words(frames, slips);
     let counts = with_signed(words, net);
     with_word(counts, b"\n")
+}
+
+fn has_move(moves: Moves) -> bool
+    ensures { λ r. ⌜ r ≡ hasMove moves ⌝ }
+{
+    moves.front != 0 || moves.second != 0 || moves.third != 0
+}
+
+// The line of a frame with a move, or an empty line.
+pub fn slip_of(head: Head) -> Line
+    ensures { λ r. ⌜ r ≡ slipLine head ⌝ }
+{
+    let moves = head.moves;
+    if has_move(moves) {
+        return slip_line(
+            head.offset,
+            moves.front as i64,
+            moves.second as i64,
+            moves.third as i64,
+        );
+    }
+    empty()
 }

@@ -1,8 +1,8 @@
 // What `speech` prints of a frame: its payload, or that it is refused.
 ghost use mathlib.Core.Path.{_≡_};
 ghost use Rattle.bits.specs.Refusals.{numberOf};
-ghost use Rattle.texts.specs.Text.{lineOf};
-ghost use Rattle.lines.specs.Text.{speechText, refusedText};
+ghost use Rattle.texts_rules.specs.Text.{lineOf};
+ghost use Rattle.lines_rules.specs.Text.{speechText, refusedText};
 use crate::listing::refused_line;
 use bits::Refusal;
 use bits::number_of;

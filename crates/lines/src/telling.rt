@@ -1,8 +1,8 @@
 // What goes to standard error: a refusal by its number, and how many frames of two merged recordings are not in the journal.
 ghost use mathlib.Core.Path.{_≡_};
 ghost use Rattle.bits.specs.Refusals.{numberOf};
-ghost use Rattle.texts.specs.Text.{lineOf};
-ghost use Rattle.lines.specs.Text.{refusalText, leftOutText};
+ghost use Rattle.texts_rules.specs.Text.{lineOf};
+ghost use Rattle.lines_rules.specs.Text.{refusalText, leftOutText};
 use bits::Refusal;
 use bits::number_of;
 use bits::wide;

@@ -1,4 +1,6 @@
-// Lists the frames in packed dibits on standard input: a line for each frame and each gap, and a last line with the frames, the slips and the pending bits.
+// listing
+// Lists the frames in packed dibits on standard input: a line for each frame and each gap.
+// `frame OFFSET MATCHED ERRORS`, `gap OFFSET LENGTH`, and last `end FRAMES SLIPS PENDING`, the pending bits.
 fn main() {
     tasks::list(0);
 }

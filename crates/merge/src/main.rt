@@ -1,4 +1,6 @@
-// Merges two packed recordings of the same time, and writes the journal of the merged frames to standard output: merge TABLE PRIMARY ALTERNATE.
+// merge TABLE PRIMARY ALTERNATE
+// Merges two packed recordings of the same time, and writes the journal of the merged frames to standard output.
+// Frames that are not in the journal are counted on standard error, where there are any: `late N double N passed over N`.
 
 // The file that argument i names, open; or what is missing, on standard error, and a negative number.
 fn open_argument(i: usize) -> i32 {

@@ -19,14 +19,14 @@ use Rattle.merger_rules.specs.declared.Position.{Position}
 use Rattle.merger.specs.declared.Merger.{Merger}
 use Rattle.merger_rules.specs.declared.Choice.{Choice}
 use Rattle.merger_rules.specs.declared.Choice.the-variants.{Neither, Chosen}
-use Rattle.merger_rules.specs.declared.Pushed.{Pushed}
-use Rattle.merger_rules.specs.declared.Pushed.the-variants.{Kept, Double, Late, Refused}
+use Rattle.merger_rules.specs.declared.Keeping.{Keeping}
+use Rattle.merger_rules.specs.declared.Keeping.the-variants.{Kept, Double, Late, Refused}
 use Rattle.merger.specs.declared.AfterPush.{AfterPush}
 use Rattle.merger_rules.specs.declared.Released.{Released}
 use Rattle.merger_rules.specs.declared.Released.the-variants.{Frame, PassedOver, NothingReady}
 use Rattle.merger.specs.declared.AfterRelease.{AfterRelease}
 use Rattle.merger_rules.specs.Merging.{View, view, isLate, homeOf, orderOf, insertAt, taken, filled, noPosition, alone, PushStep, pushStep, joinOf, openOf, putOf, pushOf, isReady, choiceOf, snapped, isAfter, freedOf, noneFreed, ReleaseStep, releaseStep, releasedAs, settle, releaseFrom, releaseOf}
-use Rattle.merger.specs.States.{viewOf, Valid, PushGave, ReleaseGave}
+use Rattle.merger.specs.States.{viewOf, ValidMerger, PushGave, ReleaseGave}
 use Rattle.merger_rules.specs.States.{belowOf, IsNear, FairChoice, Fair, keyAt, Nowhere, Sound}
 use Rattle.merger_rules.proofs.Homes.{stops, at-home, no-home, in-order}
 use Rattle.merger_steps.proofs.Search.{key-take}
@@ -47,7 +47,7 @@ released-as step r e s w l =
     f : step .next ≡ viewOf (r .merger)
     f = ap (λ (x : ReleaseStep). x .next) e
 
-module _ (m : Merger) (g : Valid m) where
+module _ (m : Merger) (g : ValidMerger m) where
   pub len : length (take (m .n) (m .positions)) ≡ m .n
   len = let w : m .n ≤ 16 = g .within in let l : length (m .positions) ≡ 16 = g .long in length-take-le (m .n) (m .positions) (omega arith)
 
@@ -57,7 +57,7 @@ module _ (m : Merger) (g : Valid m) where
       subst Fair (getD-take (m .n) (m .positions) i noPosition h) (all-at Fair noPosition (take (m .n) (m .positions)) i (g .sound .fair) (omega arith))
 
   -- refused, or told apart: the state is as it was
-  pub same : (step : PushStep) (a : Pushed) → step ≡ pushStep a (viewOf m) → PushGave m step (record { answer = a; merger = m })
+  pub same : (step : PushStep) (a : Keeping) → step ≡ pushStep a (viewOf m) → PushGave m step (record { answer = a; merger = m })
   same step a e = record { answers = sym (ap (λ (x : PushStep). x .answer) e); leaves = sym (ap (λ (x : PushStep). x .next) e); valid = g; kept = λ h. refl }
 
   pub same-release : (step : ReleaseStep) (a : Released) (f : Freed) → step ≡ releaseStep a f (viewOf m) → ReleaseGave step (record { answer = a; freed = f; merger = m })
@@ -176,7 +176,7 @@ module _ (m : Merger) (g : Valid m) where
 
   -- the first position taken out
   pub out-gave : (r : List Position) → 0 < m .n → take (m .n - 1) r ≡ drop 1 (take (m .n) (m .positions)) → length r ≡ 16
-      → (viewOf (record { n = m .n - 1; positions = r; last = m .last }) ≡ view (drop 1 (take (m .n) (m .positions))) (m .last)) × Valid (record { n = m .n - 1; positions = r; last = m .last })
+      → (viewOf (record { n = m .n - 1; positions = r; last = m .last }) ≡ view (drop 1 (take (m .n) (m .positions))) (m .last)) × ValidMerger (record { n = m .n - 1; positions = r; last = m .last })
   out-gave r p e k = (f, record { within = let w : m .n ≤ 16 = g .within in omega arith; long = k; sound = subst Sound (sym f) (rest-sound (take (m .n) (m .positions)) (m .last) (g .sound)) })
     where
       f : view (take (m .n - 1) r) (m .last) ≡ view (drop 1 (take (m .n) (m .positions))) (m .last)

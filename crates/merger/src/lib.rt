@@ -7,16 +7,16 @@ ghost use mathlib.Core.Path.{_≡_};
 ghost use mathlib.Core.Bool.{cond};
 ghost use mathlib.Core.List.{[]};
 ghost use Rattle.merger_rules.specs.Merging.{heldOf, view, pushOf, releaseOf};
-ghost use Rattle.merger.specs.States.{viewOf, Valid, PushGave, ReleaseGave};
+ghost use Rattle.merger.specs.States.{viewOf, ValidMerger, PushGave, ReleaseGave};
 use bits::Refusal;
 pub use merger_rules::Choice;
 pub use merger_rules::Clock;
 pub use merger_rules::Free;
 pub use merger_rules::Freed;
 pub use merger_rules::Held;
+pub use merger_rules::Keeping;
 pub use merger_rules::Place;
 pub use merger_rules::Position;
-pub use merger_rules::Pushed;
 pub use merger_rules::Release;
 pub use merger_rules::Released;
 use merger_steps::choose;
@@ -39,7 +39,7 @@ pub struct Merger {
 }
 
 pub struct AfterPush {
-    pub answer: Pushed,
+    pub answer: Keeping,
     pub merger: Merger,
 }
 
@@ -52,7 +52,7 @@ pub struct AfterRelease {
 impl Merger {
     // Nothing pending, nothing released.
     pub fn new() -> Merger
-        ensures { λ r. ⌜ (viewOf r ≡ view [] Clock.Absent) × Valid r ⌝ }
+        ensures { λ r. ⌜ (viewOf r ≡ view [] Clock.Absent) × ValidMerger r ⌝ }
     {
         let none = Position {
             key: 0,
@@ -68,26 +68,26 @@ impl Merger {
 
     // A frame of stream 0 (primary) or 1 (alternate), the number that the caller chose for it and the yes or no of the caller's check.
     pub fn push(self, stream: usize, figures: Head, number: u64, check: bool) -> AfterPush
-        requires { ⌜ Valid self ⌝ }
+        requires { ⌜ ValidMerger self ⌝ }
         ensures { λ r. ⌜ PushGave self (pushOf stream (heldOf figures number check) (viewOf self)) r ⌝ }
     {
         let offset = figures.offset;
         let last = self.last;
         if 1 < stream {
             return AfterPush {
-                answer: Pushed::Refused(Refusal::Stream),
+                answer: Keeping::Refused(Refusal::Stream),
                 merger: self,
             };
         }
         if 4398046511104 < offset {
             return AfterPush {
-                answer: Pushed::Refused(Refusal::Offset),
+                answer: Keeping::Refused(Refusal::Offset),
                 merger: self,
             };
         }
         if late(last, offset) {
             return AfterPush {
-                answer: Pushed::Late,
+                answer: Keeping::Late,
                 merger: self,
             };
         }
@@ -104,7 +104,7 @@ impl Merger {
 
     // The first position, where it is ready: given how far each stream is settled, or at a flush. Called until nothing is ready, it is the source's whole release.
     pub fn release(self, primary: Clock, alternate: Clock, flush: bool) -> AfterRelease
-        requires { ⌜ Valid self ⌝ }
+        requires { ⌜ ValidMerger self ⌝ }
         ensures { λ r. ⌜ ReleaseGave (releaseOf primary alternate flush (viewOf self)) r ⌝ }
     {
         let n = self.n;
@@ -134,7 +134,7 @@ impl Merger {
 
     // As at the start.
     pub fn clear(self) -> Merger
-        ensures { λ r. ⌜ (viewOf r ≡ view [] Clock.Absent) × Valid r ⌝ }
+        ensures { λ r. ⌜ (viewOf r ≡ view [] Clock.Absent) × ValidMerger r ⌝ }
     {
         Merger::new()
     }

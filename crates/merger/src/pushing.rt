@@ -3,12 +3,12 @@ ghost use mathlib.Core.Path.{_≡_};
 ghost use Prim.Native.Nat.{_^_, _≤_, _<_};
 ghost use lib.ListN.{take, getD};
 ghost use Rattle.merger_rules.specs.Merging.{noPosition, joinOf, openOf, putOf};
-ghost use Rattle.merger.specs.States.{viewOf, Valid, PushGave};
+ghost use Rattle.merger.specs.States.{viewOf, ValidMerger, PushGave};
 ghost use Rattle.merger_rules.specs.States.{IsNear, Nowhere, belowOf};
 use crate::AfterPush;
 use crate::Held;
+use crate::Keeping;
 use crate::Merger;
-use crate::Pushed;
 use bits::Refusal;
 use merger_steps::below;
 use merger_steps::is_taken;
@@ -18,7 +18,7 @@ use merger_steps::with_position;
 
 // The frame belongs to the position at a place.
 pub(crate) fn join(m: Merger, at: usize, stream: usize, h: Held) -> AfterPush
-    requires { ⌜ Valid m ⌝ ∗ ⌜ at < m .n ⌝ ∗ ⌜ IsNear (h .figures .offset) (getD (m .positions) at noPosition .key) ⌝ ∗ ⌜ h .figures .offset ≤ 2 ^ 42 ⌝ }
+    requires { ⌜ ValidMerger m ⌝ ∗ ⌜ at < m .n ⌝ ∗ ⌜ IsNear (h .figures .offset) (getD (m .positions) at noPosition .key) ⌝ ∗ ⌜ h .figures .offset ≤ 2 ^ 42 ⌝ }
     ensures { λ r. ⌜ PushGave m (joinOf stream h (viewOf m) at) r ⌝ }
 {
     let positions = m.positions;
@@ -27,7 +27,7 @@ pub(crate) fn join(m: Merger, at: usize, stream: usize, h: Held) -> AfterPush
     let p = positions[at];
     if is_taken(p, stream) {
         return AfterPush {
-            answer: Pushed::Double,
+            answer: Keeping::Double,
             merger: m,
         };
     }
@@ -35,7 +35,7 @@ pub(crate) fn join(m: Merger, at: usize, stream: usize, h: Held) -> AfterPush
     let mut next = positions;
     next[at] = q;
     AfterPush {
-        answer: Pushed::Kept,
+        answer: Keeping::Kept,
         merger: Merger {
             n: n,
             positions: next,
@@ -46,13 +46,13 @@ pub(crate) fn join(m: Merger, at: usize, stream: usize, h: Held) -> AfterPush
 
 // The frame belongs to none: a new position at its place in the order.
 pub(crate) fn open(m: Merger, at: usize, stream: usize, h: Held) -> AfterPush
-    requires { ⌜ Valid m ⌝ ∗ ⌜ at ≡ belowOf (h .figures .offset) (take (m .n) (m .positions)) ⌝ ∗ ⌜ Nowhere (h .figures .offset) (take (m .n) (m .positions)) ⌝ ∗ ⌜ at ≤ m .n ⌝ ∗ ⌜ h .figures .offset ≤ 2 ^ 42 ⌝ }
+    requires { ⌜ ValidMerger m ⌝ ∗ ⌜ at ≡ belowOf (h .figures .offset) (take (m .n) (m .positions)) ⌝ ∗ ⌜ Nowhere (h .figures .offset) (take (m .n) (m .positions)) ⌝ ∗ ⌜ at ≤ m .n ⌝ ∗ ⌜ h .figures .offset ≤ 2 ^ 42 ⌝ }
     ensures { λ r. ⌜ PushGave m (openOf stream h (viewOf m) at) r ⌝ }
 {
     let n = m.n;
     if 16 <= n {
         return AfterPush {
-            answer: Pushed::Refused(Refusal::Positions),
+            answer: Keeping::Refused(Refusal::Positions),
             merger: m,
         };
     }
@@ -62,7 +62,7 @@ pub(crate) fn open(m: Merger, at: usize, stream: usize, h: Held) -> AfterPush
     let next = with_position(positions, n, at, p);
     let more = n + 1;
     AfterPush {
-        answer: Pushed::Kept,
+        answer: Keeping::Kept,
         merger: Merger {
             n: more,
             positions: next,
@@ -73,7 +73,7 @@ pub(crate) fn open(m: Merger, at: usize, stream: usize, h: Held) -> AfterPush
 
 // One search serves for both: the first position that does not lie below the frame is its own, or the one that a new position goes before.
 pub(crate) fn put(m: Merger, stream: usize, h: Held) -> AfterPush
-    requires { ⌜ Valid m ⌝ ∗ ⌜ h .figures .offset ≤ 2 ^ 42 ⌝ }
+    requires { ⌜ ValidMerger m ⌝ ∗ ⌜ h .figures .offset ≤ 2 ^ 42 ⌝ }
     ensures { λ r. ⌜ PushGave m (putOf stream h (viewOf m)) r ⌝ }
 {
     let n = m.n;

@@ -3,7 +3,7 @@ ghost use mathlib.Core.Path.{_≡_};
 ghost use Prim.Native.Nat.{_<_};
 ghost use lib.ListN.{take, drop};
 ghost use Rattle.merger_rules.specs.Merging.{view, settle};
-ghost use Rattle.merger.specs.States.{viewOf, Valid, ReleaseGave};
+ghost use Rattle.merger.specs.States.{viewOf, ValidMerger, ReleaseGave};
 ghost use Rattle.merger_rules.specs.States.{FairChoice};
 use crate::AfterRelease;
 use crate::Choice;
@@ -19,8 +19,8 @@ use sync_rules::Head;
 
 // The merger without its first position.
 pub(crate) fn first_out(m: Merger) -> Merger
-    requires { ⌜ Valid m ⌝ ∗ ⌜ 0 < m .n ⌝ }
-    ensures { λ r. ⌜ (viewOf r ≡ view (drop 1 (take (m .n) (m .positions))) (m .last)) × Valid r ⌝ }
+    requires { ⌜ ValidMerger m ⌝ ∗ ⌜ 0 < m .n ⌝ }
+    ensures { λ r. ⌜ (viewOf r ≡ view (drop 1 (take (m .n) (m .positions))) (m .last)) × ValidMerger r ⌝ }
 {
     let n = m.n;
     let positions = m.positions;
@@ -36,7 +36,7 @@ pub(crate) fn first_out(m: Merger) -> Merger
 
 // What becomes of the chosen frame of a position that was taken out of the merger.
 pub(crate) fn give(m: Merger, c: Choice, freed: Freed) -> AfterRelease
-    requires { ⌜ Valid m ⌝ ∗ ⌜ FairChoice c ⌝ }
+    requires { ⌜ ValidMerger m ⌝ ∗ ⌜ FairChoice c ⌝ }
     ensures { λ r. ⌜ ReleaseGave (settle c freed (take (m .n) (m .positions)) (m .last)) r ⌝ }
 {
     let Choice::Chosen(h, other) = c else {

@@ -17,7 +17,7 @@ use Rattle.merger_rules.specs.declared.Place.the-variants.{Empty, Holds}
 use Rattle.merger_rules.specs.declared.Position.{Position}
 use Rattle.merger_rules.specs.declared.Choice.{Choice}
 use Rattle.merger_rules.specs.declared.Choice.the-variants.{Neither, Chosen}
-use Rattle.merger_rules.specs.declared.Pushed.the-variants.{Kept}
+use Rattle.merger_rules.specs.declared.Keeping.the-variants.{Kept}
 use Rattle.merger_rules.specs.declared.Release.{Release}
 use Rattle.merger_rules.specs.Merging.{View, homeOf, orderOf, taken, filled, noPosition, alone, PushStep, pushOf, isReady, chooseOf, choiceOf, snapped, isAfter, freedOf, ReleaseStep, settle, releaseFrom, releaseOf}
 use Rattle.merger_rules.specs.Scripts.{Call, started, given, releases, push, release}

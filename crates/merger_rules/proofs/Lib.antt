@@ -11,8 +11,4 @@ pub mod TakenOut
 pub mod Kept
 pub mod Sourced
 pub mod Repeated
-pub mod Rows
-pub mod Grid
-pub mod Promises
-pub mod Streams
 pub mod Rooms

@@ -8,7 +8,7 @@ use borrow.Author.Tests.{ltb-true, ltb-false}
 use Rattle.bits.specs.declared.Refusal.the-variants.{Stream, Offset, Positions}
 use Rattle.bits.proofs.Conds.{cond-cases}
 use Rattle.merger_rules.specs.declared.Held.{Held}
-use Rattle.merger_rules.specs.declared.Pushed.the-variants.{Kept, Double, Late, Refused}
+use Rattle.merger_rules.specs.declared.Keeping.the-variants.{Kept, Double, Late, Refused}
 use Rattle.merger_rules.specs.Merging.{View, view, isLate, isFull, homeOf, orderOf, insertAt, taken, filled, noPosition, alone, PushStep, pushStep, joinOf, openOf, pushOf}
 
 -- the frame is neither refused by 7 or 8 nor late

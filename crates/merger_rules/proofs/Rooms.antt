@@ -15,7 +15,7 @@ use Rattle.merger_rules.specs.declared.Held.{Held}
 use Rattle.merger_rules.specs.declared.Place.{Place}
 use Rattle.merger_rules.specs.declared.Place.the-variants.{Empty, Holds}
 use Rattle.merger_rules.specs.declared.Position.{Position}
-use Rattle.merger_rules.specs.declared.Pushed.the-variants.{Refused}
+use Rattle.merger_rules.specs.declared.Keeping.the-variants.{Refused}
 use Rattle.merger_rules.specs.Merging.{View, view, homeOf, orderOf, noPosition, alone, PushStep, pushOf, passed, isReady, releaseOf}
 use Rattle.merger_rules.specs.States.{Spaced, Sound}
 use Rattle.merger_rules.specs.Scripts.{started}

@@ -18,7 +18,7 @@ use Rattle.merger_rules.specs.declared.Held.{Held}
 use Rattle.merger_rules.specs.declared.Place.{Place}
 use Rattle.merger_rules.specs.declared.Place.the-variants.{Empty, Holds}
 use Rattle.merger_rules.specs.declared.Position.{Position}
-use Rattle.merger_rules.specs.declared.Pushed.the-variants.{Refused}
+use Rattle.merger_rules.specs.declared.Keeping.the-variants.{Refused}
 use Rattle.merger_rules.specs.Merging.{View, view, isLate, isNear, homeOf, orderOf, insertAt, isHeld, taken, filled, noPosition, alone, PushStep, pushOf}
 use Rattle.merger_rules.specs.States.{keyAt, Under, Spaced, Sound}
 use Rattle.merger_rules.specs.Source.{isSomeAnd, firstIn, unwrapOr, setNone, slotSet, entrySet, sourcePush}

@@ -10,8 +10,8 @@ use Rattle.merger_rules.specs.declared.Freed.{Freed}
 use Rattle.merger_rules.specs.declared.Place.{Place}
 use Rattle.merger_rules.specs.declared.Place.the-variants.{Empty, Holds}
 use Rattle.merger_rules.specs.declared.Position.{Position}
-use Rattle.merger_rules.specs.declared.Pushed.{Pushed}
-use Rattle.merger_rules.specs.declared.Pushed.the-variants.{Kept, Double, Late, Refused}
+use Rattle.merger_rules.specs.declared.Keeping.{Keeping}
+use Rattle.merger_rules.specs.declared.Keeping.the-variants.{Kept, Double, Late, Refused}
 use Rattle.merger_rules.specs.declared.Release.{Release}
 use Rattle.merger_rules.specs.Merging.{View, pushOf, releaseOf}
 use Rattle.merger_rules.specs.Scripts.{Call, after, push, release}
@@ -35,7 +35,7 @@ unfoldable pub releasedOf : ℕ → List Release → ℕ
 releasedOf x [] = 0
 releasedOf x (r ∷ rs) = one x (r .number) + releasedOf x rs
 
-abbrev pub keptBy : ℕ → Held → Pushed → ℕ
+abbrev pub keptBy : ℕ → Held → Keeping → ℕ
 keptBy x h Kept = one x (h .number)
 keptBy x h Double = 0
 keptBy x h Late = 0

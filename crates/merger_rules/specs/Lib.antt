@@ -5,7 +5,5 @@ pub mod Offsets
 pub mod Counts
 pub mod Origins
 pub mod Source
-pub mod Grids
-pub mod Streams
 pub mod Rounds
 pub mod Statements

@@ -17,8 +17,8 @@ use Rattle.merger_rules.specs.declared.Place.the-variants.{Empty, Holds}
 use Rattle.merger_rules.specs.declared.Position.{Position}
 use Rattle.merger_rules.specs.declared.Choice.{Choice}
 use Rattle.merger_rules.specs.declared.Choice.the-variants.{Neither, Chosen}
-use Rattle.merger_rules.specs.declared.Pushed.{Pushed}
-use Rattle.merger_rules.specs.declared.Pushed.the-variants.{Kept, Double, Late, Refused}
+use Rattle.merger_rules.specs.declared.Keeping.{Keeping}
+use Rattle.merger_rules.specs.declared.Keeping.the-variants.{Kept, Double, Late, Refused}
 use Rattle.merger_rules.specs.declared.Release.{Release}
 use Rattle.merger_rules.specs.declared.Released.{Released}
 use Rattle.merger_rules.specs.declared.Released.the-variants.{Frame, PassedOver, NothingReady}
@@ -82,10 +82,10 @@ alone s h = filled s h (record { key = h .figures .offset; primary = Empty; alte
 
 -- what a push answers, and what it leaves
 pub record PushStep : Type 0 where
-  pub answer : Pushed
+  pub answer : Keeping
   pub next : View
 
-abbrev pub pushStep : Pushed → View → PushStep
+abbrev pub pushStep : Keeping → View → PushStep
 pushStep a v = record { answer = a; next = v }
 
 -- the frame belongs to the position at a place: kept there unless the stream's place is taken

@@ -7,7 +7,7 @@ use Prim.Native.Nat.{ℕ}
 use Rattle.merger_rules.specs.declared.Clock.{Clock}
 use Rattle.merger_rules.specs.declared.Clock.the-variants.{At}
 use Rattle.merger_rules.specs.declared.Held.{Held}
-use Rattle.merger_rules.specs.declared.Pushed.the-variants.{Kept}
+use Rattle.merger_rules.specs.declared.Keeping.the-variants.{Kept}
 use Rattle.merger_rules.specs.declared.Release.{Release}
 use Rattle.merger_rules.specs.Merging.{View, pushOf, snapped}
 use Rattle.merger_rules.specs.Scripts.{Call, after, push, release}

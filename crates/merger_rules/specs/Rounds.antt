@@ -8,7 +8,7 @@ use Rattle.bits.specs.declared.Refusal.the-variants.{Positions}
 use Rattle.sync_rules.specs.Moves.{noMoves}
 use Rattle.merger_rules.specs.declared.Clock.the-variants.{At}
 use Rattle.merger_rules.specs.declared.Held.{Held}
-use Rattle.merger_rules.specs.declared.Pushed.the-variants.{Refused}
+use Rattle.merger_rules.specs.declared.Keeping.the-variants.{Refused}
 use Rattle.merger_rules.specs.Merging.{View, heldOf, pushOf}
 use Rattle.merger_rules.specs.Source.{times}
 

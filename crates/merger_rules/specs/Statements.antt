@@ -1,7 +1,7 @@
 -- What is proved of the merger's definitions, each the `ensures` of an empty public function (src/lib.rt). Assumes nothing.
 use mathlib.Core.Path.{_≡_}
-use mathlib.Core.Bool.{Bool, true, false, _||_}
-use mathlib.Core.List.{List, [], _∷_}
+use mathlib.Core.Bool.{Bool, true, false}
+use mathlib.Core.List.{List, _∷_}
 use Prim.Native.Nat.{ℕ, _+_, _*_, _<_, _≤_}
 use lib.ListN.{length}
 use Rattle.bits.specs.declared.Refusal.{Refusal}
@@ -9,7 +9,7 @@ use Rattle.merger_rules.specs.declared.Clock.{Clock}
 use Rattle.merger_rules.specs.declared.Clock.the-variants.{Absent, At}
 use Rattle.merger_rules.specs.declared.Held.{Held}
 use Rattle.merger_rules.specs.declared.Position.{Position}
-use Rattle.merger_rules.specs.declared.Pushed.the-variants.{Refused}
+use Rattle.merger_rules.specs.declared.Keeping.the-variants.{Refused}
 use Rattle.merger_rules.specs.declared.Released.the-variants.{NothingReady}
 use Rattle.merger_rules.specs.Merging.{View, view, isLate, pushOf, isReady, snapped, freedOf, noneFreed, releaseStep, releaseOf}
 use Rattle.merger_rules.specs.States.{Sound}
@@ -18,8 +18,6 @@ use Rattle.merger_rules.specs.Offsets.{Later, Advances, Rising, offsetAt
 use Rattle.merger_rules.specs.Counts.{pendingOf, releasedOf, keptOf, freedIn}
 use Rattle.merger_rules.specs.Origins.{Keeps, Origins}
 use Rattle.merger_rules.specs.Source.{sourcePush, sourceRelease, times}
-use Rattle.merger_rules.specs.Grids.{has, offsetsOf, keysOf, tookOffsets, OnGrid, NonePassed, LateArePast, Ordered, Honest, NoneLost}
-use Rattle.merger_rules.specs.Streams.{Alone, Unbroken}
 use Rattle.merger_rules.specs.Rounds.{Round, RoomIn, Paced, oneSided}
 
 -- every state that a start and further calls have reached is sound
@@ -78,18 +76,6 @@ pub record AsTheSource : Type 0 where
   pub pushed : (s : ℕ) (h : Held) (v : View) → Sound v → ((r : Refusal) → pushOf s h v .answer ≡ Refused r → ⊥) → pushOf s h v .next ≡ sourcePush s h v
   pub repeated : (s₀ s₁ : Clock) (flush : Bool) (l : List Position) (last : Clock) (n : ℕ) → length l ≤ n → times n s₀ s₁ flush (view l last) ≡ sourceRelease s₀ s₁ flush l last
 
--- frames of both streams on one grid, in any order and with any losses: none is passed over, none is late but those whose place was released or passed, and
--- what comes out, with what is pending, is what was taken in. Once nothing is pending, it is that list itself, in order: no gap is hidden and none is made
-pub record OneGrid (calls : List Call) : Type 0 where
-  pub none-passed : NonePassed calls started
-  pub late-past : LateArePast calls started
-  pub members : (x : ℕ) → (has x (offsetsOf (releases calls started)) || has x (keysOf (left calls started .pending))) ≡ has x (tookOffsets calls started)
-  pub exactly : (grid : List ℕ) → left calls started .pending ≡ [] → Ordered grid → ((x : ℕ) → has x (tookOffsets calls started) ≡ has x grid) → offsetsOf (releases calls started) ≡ grid
-
--- streams that keep their promise (frames rise, none below what was called settled) lose nothing on one grid: no frame is late and none double
-pub record NothingLost : Type 0 where
-  pub kept : (g : ℕ) (calls : List Call) → OnGrid g calls → Honest 0 0 calls → NoneLost calls started
-
 -- frames off the grid. After a frame of own offset o that was released as l, a frame of own offset n, a whole frame or more after it, is not passed over; if
 -- o was moved on by at most 191, n is not late either, and is moved back by at most 191 and on by at most 192. Only a frame exactly half a frame off the grid is
 -- moved on by 192, and then the next frame of its stream, 384 after it, is late
@@ -98,11 +84,6 @@ pub record Slips : Type 0 where
   pub not-late : (last : Clock) (o n : ℕ) → snapped last o ≤ o + 191 → o + 384 ≤ n → isLate (At (snapped last o)) n ≡ false
   pub moved : (last : Clock) (o n : ℕ) → snapped last o ≤ o + 192 → o + 384 ≤ n → (n ≤ snapped (At (snapped last o)) n + 191) × (snapped (At (snapped last o)) n ≤ n + 192)
   pub half : (l k : ℕ) → k < 15 → (snapped (At l) (l + k * 384 + 576) ≡ l + k * 384 + 768) × (isLate (At (l + k * 384 + 768)) (l + k * 384 + 960) ≡ true)
-
--- one stream alone, whatever its slips: nothing is double or passed over, no offset is moved back by more than 191 or on by more than 192, and a frame is late only
--- where it lies exactly half a frame after the last release
-pub record OneStream : Type 0 where
-  pub unbroken : (s : ℕ) (calls : List Call) → s ≤ 1 → Alone s 0 calls → Unbroken calls started
 
 -- refusal 9 does not come to a caller that releases all that is ready after at most j frames, none of them more than d above either settled offset. It comes with
 -- the seventeenth frame of a stream where the other one stands still

@@ -3,11 +3,7 @@
 //
 // Read specs/Merging.antt for what the answers are, specs/Source.antt for the source's own loop, specs/Statements.antt for what is proved of them: each theorem is the
 // `ensures` of an empty function, so that it cannot vanish. Nothing runs here.
-ghost use mathlib.Core.List.{List};
-ghost use Prim.Native.Nat.{ℕ};
-ghost use Rattle.merger_rules.specs.Scripts.{Call};
-ghost use Rattle.merger_rules.specs.Grids.{OnGrid};
-ghost use Rattle.merger_rules.specs.Statements.{Reached, Rises, Moves, OnlyReady, Fates, Numbers, FromKept, AsTheSource, OneGrid, NothingLost, Slips, OneStream, NeverFull};
+ghost use Rattle.merger_rules.specs.Statements.{Reached, Rises, Moves, OnlyReady, Fates, Numbers, FromKept, AsTheSource, Slips, NeverFull};
 use bits::Refusal;
 use sync_rules::Head;
 
@@ -38,7 +34,7 @@ pub struct Position {
 }
 
 // What a push answers. Its refusals are 7 (stream), 8 (offset) and 9 (positions).
-pub enum Pushed {
+pub enum Keeping {
     Kept,
     Double,
     Late,
@@ -117,24 +113,9 @@ pub fn as_the_source()
     ensures { λ _. ⌜ AsTheSource ⌝ }
 {}
 
-// Frames of both streams on one grid: what comes out is what was taken in.
-pub fn one_grid()
-    ensures { λ _. ⌜ ((g : ℕ) (calls : List Call) → OnGrid g calls → OneGrid calls) ⌝ }
-{}
-
-// Streams that keep their promise lose nothing on one grid.
-pub fn nothing_lost()
-    ensures { λ _. ⌜ NothingLost ⌝ }
-{}
-
 // Frames off the grid.
 pub fn slips()
     ensures { λ _. ⌜ Slips ⌝ }
-{}
-
-// One stream alone loses nothing but what lies exactly half a frame off the grid.
-pub fn one_stream()
-    ensures { λ _. ⌜ OneStream ⌝ }
 {}
 
 // Refusal 9 does not come to a caller that releases all that is ready.

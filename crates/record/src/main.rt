@@ -1,4 +1,5 @@
-// Writes the journal of the frames in packed dibits on standard input to standard output: record [TABLE].
+// record [TABLE]
+// Writes the journal of the frames in packed dibits on standard input to standard output.
 // With a table each frame is decoded, and its record says whether it was accepted; without one the frames are untried.
 fn main() {
     if os::arg_count() < 2 {

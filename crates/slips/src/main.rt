@@ -1,4 +1,6 @@
-// Lists the frames that slipped in packed dibits on standard input: a line for each frame with a move, and a last line with the frames, the slips and the net slip.
+// slips
+// Lists the frames in packed dibits on standard input that followed a slip, with their moves.
+// `slip OFFSET FRONT SECOND THIRD`: how far a frame's front was moved and its second and third segment lie off their places, in bits; and last `end FRAMES SLIPS NETSLIP`.
 fn main() {
     tasks::slips(0);
 }

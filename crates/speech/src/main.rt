@@ -1,4 +1,6 @@
-// Prints the speech of each frame in packed dibits on standard input, decoded with a table: speech TABLE.
+// speech TABLE
+// Prints the speech of each frame in packed dibits on standard input, decoded with a table.
+// `speech OFFSET CORRECTED PAYLOAD` or `refused OFFSET 6`, gaps, and last `end FRAMES ACCEPTED REFUSED`.
 fn main() {
     if os::arg_count() < 2 {
         io::write_all(2, b"usage: speech TABLE\n");

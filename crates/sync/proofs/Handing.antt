@@ -8,24 +8,25 @@ use lib.ListN.{length}
 use Rattle.sync.specs.declared.Pushed.{Pushed}
 use Rattle.sync.specs.declared.Fed.{Fed}
 use Rattle.sync.specs.declared.Synchroniser.{Synchroniser}
-use Rattle.sync.specs.View.{view, Valid}
+use Rattle.sync.specs.View.{view, ValidSynchroniser}
 use Rattle.sync.specs.Answers.{PushedBy, handedOf}
 use Rattle.sync.specs.Feeds.{FedBy, fedWith}
 use Rattle.sync_rules.specs.State.{Input}
 use Rattle.sync_steps.specs.declared.Push.{Push}
-use Rattle.sync_steps.specs.declared.numbers.Numbers.{Numbers}
-use Rattle.sync_steps.specs.declared.frames.Drained.{Drained}
+use Rattle.sync_numbers.specs.declared.numbers.Numbers.{Numbers}
+use Rattle.sync_frames.specs.declared.frames.Drained.{Drained}
 use Rattle.sync_steps.specs.declared.pushes.Given.{Given}
 use Rattle.sync_steps.specs.declared.feeds.Into.{Into}
-use Rattle.sync_steps.specs.View.{Steady, Few, Rings}
-use Rattle.sync_steps.specs.Steps.{DrainedBy, Brought, appendedTo, inputOf}
+use Rattle.sync_numbers.specs.View.{Steady, Few, Rings}
+use Rattle.sync_frames.specs.Frames.{DrainedBy}
+use Rattle.sync_steps.specs.Steps.{Brought, appendedTo, inputOf}
 use Rattle.sync_steps.specs.Answers.{answerBy, answerTo, pushOf, takes}
 use Rattle.sync_steps.specs.Feeds.{FedOut, FedInto}
 use Rattle.sync_steps.proofs.Bringing.{newBits, newRels, brings}
 use Rattle.sync_steps.proofs.Answering.{PushedInto, taking}
 
 -- ---- a synchroniser lends its rings
-module _ (s : Synchroniser) (v : Valid s) (long : length (s .bits) ≡ 1155) (as-long : length (s .reliabilities) ≡ 1155) where
+module _ (s : Synchroniser) (v : ValidSynchroniser s) (long : length (s .bits) ≡ 1155) (as-long : length (s .reliabilities) ≡ 1155) where
   pub lends : Steady (s .numbers) × (Few (s .numbers) × Rings (s .bits) (s .reliabilities))
   lends = (v .steady, (v .few, record { long = long; as-long = as-long; binary = v .binary }))
 

@@ -4,12 +4,12 @@ use mathlib.Core.Path.{_≡_}
 use mathlib.Core.List.{List}
 use Prim.Native.Nat.{ℕ}
 use lib.ListN.{length}
-use Rattle.sync_steps.specs.declared.frames.Drained.{Drained}
+use Rattle.sync_frames.specs.declared.frames.Drained.{Drained}
 use Rattle.sync_steps.specs.declared.Push.{Push}
 use Rattle.sync.specs.declared.Pushed.{Pushed}
 use Rattle.sync.specs.declared.Synchroniser.{Synchroniser}
-use Rattle.sync.specs.View.{view, Valid}
-use Rattle.sync_steps.specs.Steps.{headsOf}
+use Rattle.sync.specs.View.{view, ValidSynchroniser}
+use Rattle.sync_frames.specs.Frames.{headsOf}
 use Rattle.sync_rules.specs.State.{Input}
 use Rattle.sync_rules.specs.Room.{laid}
 -- passed on: the tests of a push in their order, and what a push does that is taken or refused
@@ -18,7 +18,7 @@ unfoldable pub use Rattle.sync_steps.specs.Answers.{answerBy, answerTo, pushOf,
 -- the answer r to the push x on the synchroniser s, and the room's bytes before and after
 pub record PushedBy (room room′ : List ℕ) (s : Synchroniser) (x : Input) (r : Pushed) : Type 0 where
   pub answer : r .answer ≡ answerTo (length room) x (view s)
-  pub valid : Valid (r .next)
+  pub valid : ValidSynchroniser (r .next)
   pub next : view (r .next) ≡ pushOf (answerTo (length room) x (view s)) x (view s) .next
   pub many : r .count ≡ length (pushOf (answerTo (length room) x (view s)) x (view s) .sent)
   pub figures : r .heads ≡ headsOf 3 (pushOf (answerTo (length room) x (view s)) x (view s) .sent)

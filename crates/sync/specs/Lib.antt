@@ -1,5 +1,3 @@
 pub mod View
 pub mod Answers
 pub mod Feeds
-pub mod Calls
-pub mod Statements

@@ -4,13 +4,13 @@
 use Rattle.bits.specs.Bit.{Bits}
 use Rattle.sync.specs.declared.Synchroniser.{Synchroniser}
 use Rattle.sync_rules.specs.State.{State}
-use Rattle.sync_steps.specs.View.{viewOf, Steady, Few}
+use Rattle.sync_numbers.specs.View.{viewOf, Steady, Few}
 
 abbrev pub view : Synchroniser → State
 view s = viewOf (s .bits) (s .reliabilities) (s .numbers)
 
 -- a state that `new` and further calls reach
-pub record Valid (s : Synchroniser) : Type 0 where
+pub record ValidSynchroniser (s : Synchroniser) : Type 0 where
   pub steady : Steady (s .numbers)
   pub binary : Bits (s .bits)
   pub few : Few (s .numbers)

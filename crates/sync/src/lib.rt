@@ -1,19 +1,18 @@
 // The synchroniser: dibits in, frames out.
 // Each push takes the state by value and hands back the next one beside the heads of its frames; envelopes and reliabilities go into the lent room.
-// What a push does to the rings and the numbers of a state is in the crate `sync_steps`.
+// What a push does to the rings and the numbers of a state is in the crate `sync_steps`, what holds of any history of calls in `sync_call_rules`.
 ghost use mathlib.Core.Path.{_≡_};
 ghost use mathlib.Core.Bool.{true, false};
 ghost use Prim.Native.Nat.{_^_, _<_};
 ghost use lib.IntN.{subℕ};
 ghost use lib.ListN.{length, drop};
-ghost use Rattle.sync.specs.View.{Valid, view};
+ghost use Rattle.sync.specs.View.{ValidSynchroniser, view};
 ghost use Rattle.sync_steps.specs.Steps.{inputOf};
 ghost use Rattle.sync.specs.Answers.{PushedBy, handedOf};
-ghost use Rattle.sync.specs.Feeds.{FedBy, fedOf, hardly, softly, unpacked, fedWith, feedRules};
+ghost use Rattle.sync.specs.Feeds.{FedBy, fedOf, hardly, softly, unpacked, fedWith};
 ghost use Rattle.sync_rules.specs.State.{start, hard, pending, slips, netSlip, streamEnd};
 ghost use Rattle.sync_rules.specs.Pushes.{quiet};
 ghost use Rattle.sync_rules.specs.Demand.{demand3};
-ghost use Rattle.sync.specs.Statements.{callsFollow, demandCalls, endCalls, quietCalls, moveCalls};
 ghost use Rattle.sync_rules.specs.Statements.{rules};
 use sync_rules::Head;
 use sync_steps::Drained;
@@ -57,7 +56,7 @@ pub struct Fed {
 
 impl Synchroniser {
     pub fn new() -> Self
-        ensures { λ r. ⌜ Valid r ⌝ }
+        ensures { λ r. ⌜ ValidSynchroniser r ⌝ }
         ensures view { λ r. ⌜ view r ≡ start ⌝ }
     {
         let numbers = Numbers {
@@ -83,7 +82,7 @@ impl Synchroniser {
 
     // A hard dibit.
     pub fn push(self, dibit: u8, room: &mut [u8]) -> Pushed
-        requires { ⌜ Valid self ⌝ }
+        requires { ⌜ ValidSynchroniser self ⌝ }
         ensures { λ r. ⌜ PushedBy (now (room .entry)) (now (room .exit)) self (hard dibit) r ⌝ }
     {
         let x = hard_given(dibit);
@@ -92,7 +91,7 @@ impl Synchroniser {
 
     // A dibit with the reliabilities of its two bits.
     pub fn push_soft(self, dibit: u8, first: u8, second: u8, room: &mut [u8]) -> Pushed
-        requires { ⌜ Valid self ⌝ }
+        requires { ⌜ ValidSynchroniser self ⌝ }
         ensures { λ r. ⌜ PushedBy (now (room .entry)) (now (room .exit)) self (record { dibit = dibit; ofFirst = first; ofSecond = second; soft = true }) r ⌝ }
     {
         let x = soft_given(dibit, first, second);
@@ -101,7 +100,7 @@ impl Synchroniser {
 
     // Hard dibits one after the other, up to the first that sends frames or is refused. `used` of them were taken: the caller goes on with the rest.
     pub fn feed(self, dibits: &[u8], room: &mut [u8]) -> Fed
-        requires { ⌜ Valid self ⌝ }
+        requires { ⌜ ValidSynchroniser self ⌝ }
         ensures { λ r. ⌜ FedBy (now (room .entry)) (now (room .exit)) (fedOf (length (now (room .entry))) (hardly (now (dibits .entry))) (view self)) r ⌝ }
     {
         let mut bits = self.bits;
@@ -122,7 +121,7 @@ impl Synchroniser {
 
     // The same with two reliabilities for each dibit, as far as both slices reach.
     pub fn feed_soft(self, dibits: &[u8], reliable: &[u8], room: &mut [u8]) -> Fed
-        requires { ⌜ Valid self ⌝ }
+        requires { ⌜ ValidSynchroniser self ⌝ }
         ensures { λ r. ⌜ FedBy (now (room .entry)) (now (room .exit)) (fedOf (length (now (room .entry))) (softly (now (dibits .entry)) (now (reliable .entry))) (view self)) r ⌝ }
     {
         let mut bits = self.bits;
@@ -143,7 +142,7 @@ impl Synchroniser {
 
     // Packed bytes, four dibits each, from dibit `start` on. A byte can be cut by a push that sends: the caller goes on with `start + used`.
     pub fn feed_packed(self, bytes: &[u8], start: usize, room: &mut [u8]) -> Fed
-        requires { ⌜ Valid self ⌝ }
+        requires { ⌜ ValidSynchroniser self ⌝ }
         ensures { λ r. ⌜ FedBy (now (room .entry)) (now (room .exit)) (fedOf (length (now (room .entry))) (hardly (drop start (unpacked (now (bytes .entry))))) (view self)) r ⌝ }
     {
         let mut bits = self.bits;
@@ -172,7 +171,7 @@ impl Synchroniser {
 
     // Slips followed.
     pub fn slips(self) -> u64
-        requires { ⌜ Valid self ⌝ }
+        requires { ⌜ ValidSynchroniser self ⌝ }
         ensures { λ r. ⌜ r ≡ slips (view self) ⌝ }
     {
         let n = self.numbers;
@@ -181,7 +180,7 @@ impl Synchroniser {
 
     // The signed net slip: two bits for each slip to a later symbol, less two for each to an earlier one.
     pub fn net_slip(self) -> i64
-        requires { ⌜ Valid self ⌝ }
+        requires { ⌜ ValidSynchroniser self ⌝ }
         ensures { λ r. ⌜ r ≡ netSlip (view self) ⌝ }
     {
         let n = self.numbers;
@@ -230,7 +229,7 @@ impl Synchroniser {
 
     // The end of the stream: the settled offset and the bits pending behind it.
     pub fn stream_end(self) -> u64
-        requires { ⌜ Valid self ⌝ }
+        requires { ⌜ ValidSynchroniser self ⌝ }
         ensures { λ r. ⌜ r ≡ streamEnd (view self) ⌝ }
     {
         let n = self.numbers;
@@ -239,7 +238,7 @@ impl Synchroniser {
 
     // How many dibits can be pushed or fed before one searches or sends: until then no frame goes out and the settled offset stays.
     pub fn quiet_dibits(self) -> usize
-        requires { ⌜ Valid self ⌝ }
+        requires { ⌜ ValidSynchroniser self ⌝ }
         ensures { λ r. ⌜ r ≡ quiet (view self) ⌝ }
     {
         let n = self.numbers;
@@ -295,7 +294,7 @@ fn handed(answer: Push, d: Drained, next: Synchroniser) -> Pushed
 
 // One push. It writes into the state that it hands back: a state that is taken apart and put together again is copied once more.
 fn one_push(s: Synchroniser, x: Given, room: &mut [u8]) -> Pushed
-    requires { ⌜ Valid s ⌝ }
+    requires { ⌜ ValidSynchroniser s ⌝ }
     ensures { λ r. ⌜ PushedBy (now (room .entry)) (now (room .exit)) s (inputOf x) r ⌝ }
 {
     let k = s.numbers;
@@ -335,33 +334,3 @@ pub fn synchroniser_rules()
 {
     sync_rules::synchroniser_rules();
 }
-
-// Any history of calls has the state and the frames of the rules' pushes.
-pub fn calls_follow_the_rules()
-    ensures { λ _. ⌜ callsFollow ⌝ }
-{}
-
-// Demand 3 over the calls: what any history of calls, refused ones among them, hands out.
-pub fn demand_three_of_calls()
-    ensures { λ _. ⌜ demandCalls ⌝ }
-{}
-
-// What a feed does, by the pushes that it makes: no frame is lost, and nothing is pushed twice.
-pub fn feed_is_pushes()
-    ensures { λ _. ⌜ feedRules ⌝ }
-{}
-
-// The end of the stream after any history of calls: with the net slip it is the bits pushed, and it stays below 2^42.
-pub fn end_of_calls()
-    ensures { λ _. ⌜ endCalls ⌝ }
-{}
-
-// Calls that make no more pushes than `quiet_dibits` says hand out no frame and leave the settled offset.
-pub fn quiet_calls()
-    ensures { λ _. ⌜ quietCalls ⌝ }
-{}
-
-// The net slip rises by the front moves and third shifts of the frames that any history of calls hands out.
-pub fn moves_of_calls()
-    ensures { λ _. ⌜ moveCalls ⌝ }
-{}

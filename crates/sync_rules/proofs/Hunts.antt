@@ -14,7 +14,7 @@ use Rattle.sync_rules.specs.Frames.{Frame, send, ready}
 use Rattle.sync_rules.specs.Pushes.{Out, tries, searchAt, search, drain, step, run}
 use Rattle.sync_rules.specs.Demand.{stream}
 use Rattle.bits.proofs.Conds.{cond-cases}
-use Rattle.sync_rules.proofs.Lying.{Bal, Lies, lies-length, lies-more, lies-pass, is-ready, not-ready, sends}
+use Rattle.sync_rules.proofs.Lying.{Bal, Whole, Beside, slide, here, Lies, lies-length, lies-more, lies-pass, is-ready, not-ready, sends}
 
 -- ---- the first place
 pub first-le : (f : ℕ → Bool) (p n : ℕ) → firstOf f p n ≤ p + n
@@ -51,6 +51,7 @@ pub record Inv (H : List ℕ) (m : State) : Type 0 where
   pub low : m .locked ≡ false → length H ≤ lies .from + m .restorable + 1151
   pub high : m .locked ≡ true → length H ≤ lies .from + m .restorable + 391
   pub balance : Bal (lies .from + m .restorable) m
+  pub whole : Whole (lies .from + m .restorable) m
 
 abbrev pub two : Input → List ℕ
 two x = x .dibit / 2 ∷ x .dibit % 2 ∷ []
@@ -63,6 +64,8 @@ pub record Searches (H : List ℕ) (m : State) (a : ℕ) (n : State) : Type 0 wh
   pub clock : n .clock + a ≡ m .clock + (lies .from + n .restorable)
   pub further : a ≤ lies .from + n .restorable
   pub balance : Bal a m → Bal (lies .from + n .restorable) n
+  pub whole : Whole a m → Whole (lies .from + n .restorable) n
+  pub beside : Beside m a n (lies .from)
   pub frames : n .frames ≡ m .frames
   pub soft : n .soft ≡ m .soft
   pub failures : n .locked ≡ true → m .locked ≡ false → n .failures ≡ 0
@@ -82,6 +85,8 @@ searches-at H m l shut few p h =
       clock = omega arith;
       further = omega arith;
       balance = λ e. omega arith;
+      whole = λ e. omega arith;
+      beside = λ W k e v. slide W (m .reliabilities) k _ (l .from) v (omega arith);
       frames = refl;
       soft = refl;
       failures = λ t w. ap (λ (b : Bool). cond b 0 (m .failures)) t;
@@ -96,21 +101,21 @@ pub searches : (H : List ℕ) (m : State) (l : Lies H (m .held) (m .restorable))
 unfolding search
 searches H m l low high =
     cond-cases (λ n. Searches H m (l .from + m .restorable) n) (m .locked) m _
-    (λ t. record { lies = l; low = λ w. absurd (true≢false (sym t ∙ w)); high = λ v. omega (arith, high t); clock = refl; further = omega arith; balance = λ e. e; frames = refl; soft = refl; failures = λ v w. absurd (true≢false (sym t ∙ w)); keeps = λ v. refl })
+    (λ t. record { lies = l; low = λ w. absurd (true≢false (sym t ∙ w)); high = λ v. omega (arith, high t); clock = refl; further = omega arith; balance = λ e. e; whole = λ e. e; beside = here H m l; frames = refl; soft = refl; failures = λ v w. absurd (true≢false (sym t ∙ w)); keeps = λ v. refl })
     (λ w. searches-at H m l w (low w) _ (from-first _ _ _ (omega arith)))
 
 -- frames: what is left once up to n of them went out
-pub drains : (H : List ℕ) (n : ℕ) → n ≤ 3 → (m : State) (l : Lies H (m .held) (m .restorable)) → (m .locked ≡ false → length H ≤ l .from + m .restorable + 1151) → (m .locked ≡ true → length H ≤ l .from + m .restorable + (391 + 378 * n)) → Bal (l .from + m .restorable) m → Inv H (drain n m .next)
+pub drains : (H : List ℕ) (n : ℕ) → n ≤ 3 → (m : State) (l : Lies H (m .held) (m .restorable)) → (m .locked ≡ false → length H ≤ l .from + m .restorable + 1151) → (m .locked ≡ true → length H ≤ l .from + m .restorable + (391 + 378 * n)) → Bal (l .from + m .restorable) m → Whole (l .from + m .restorable) m → Inv H (drain n m .next)
 unfolding drain
-drains H zero k m l low high bal = record { lies = l; low = low; high = λ t. omega (arith, high t); balance = bal }
-drains H (suc n) k m l low high bal =
+drains H zero k m l low high bal whole = record { lies = l; low = low; high = λ t. omega (arith, high t); balance = bal; whole = whole }
+drains H (suc n) k m l low high bal whole =
     cond-cases (λ (o : Out). Inv H (o .next)) (ready m) _ _
     (λ t. let r = is-ready m t in
     let s = sends H m l r in
     let h = high (r .locked) in
     let f = s .far in
-    drains H n (omega arith) (send m .next) (s .lies) (λ w. omega arith) (λ v. omega arith) (s .balance bal))
-    (λ w. record { lies = l; low = low; high = λ t. omega (arith, not-ready m w t, lies-length H (m .held) (m .restorable) l, l .fits); balance = bal })
+    drains H n (omega arith) (send m .next) (s .lies) (λ w. omega arith) (λ v. omega arith) (s .balance bal) (omega (arith, s .two)))
+    (λ w. record { lies = l; low = low; high = λ t. omega (arith, not-ready m w t, lies-length H (m .held) (m .restorable) l, l .fits); balance = bal; whole = whole })
 
 pub inv-bring : (H : List ℕ) (x : Input) (m : State) → Lies H (m .held) (m .restorable) → Lies (H ++ two x) (bring x m .held) (bring x m .restorable)
 unfolding bring
@@ -126,11 +131,15 @@ pub brought-bal : (H : List ℕ) (x : Input) (m : State) (i : Inv H m) → Bal (
 unfolding bring
 brought-bal H x m i = i .balance
 
+pub brought-whole : (H : List ℕ) (x : Input) (m : State) (i : Inv H m) → Whole (i .lies .from + m .restorable) (bring x m)
+unfolding bring
+brought-whole H x m i = i .whole
+
 pub inv-step : (H : List ℕ) (x : Input) (m : State) → Inv H m → Inv (H ++ two x) (step x m .next)
 unfolding step
 inv-step H x m i =
     let s = inv-search H x m i in
-    drains (H ++ two x) 3 (omega arith) (search (bring x m)) (s .lies) (s .low) (λ t. omega (arith, s .high t)) (s .balance (brought-bal H x m i))
+    drains (H ++ two x) 3 (omega arith) (search (bring x m)) (s .lies) (s .low) (λ t. omega (arith, s .high t)) (s .balance (brought-bal H x m i)) (s .whole (brought-whole H x m i))
 
 pub stream-on : (H : List ℕ) (x : Input) (xs : List Input) → H ++ stream (x ∷ xs) ≡ (H ++ two x) ++ stream xs
 unfolding stream
@@ -142,7 +151,7 @@ inv-run [] H m i = subst (λ (z : List ℕ). Inv z m) (sym (append-nil H)) i
 inv-run (x ∷ xs) H m i = subst (λ (z : List ℕ). Inv z (run xs (step x m .next) .next)) (sym (stream-on H x xs)) (inv-run xs (H ++ two x) (step x m .next) (inv-step H x m i))
 
 pub inv-start : Inv [] start
-inv-start = record { lies = record { from = 0; held = refl; restorable = omega arith; fits = omega arith }; low = λ w. omega arith; high = λ t. omega arith; balance = refl }
+inv-start = record { lies = record { from = 0; held = refl; restorable = omega arith; fits = omega arith }; low = λ w. omega arith; high = λ t. omega arith; balance = refl; whole = refl }
 
 pub reached : (xs : List Input) → Inv (stream xs) (run xs start .next)
 reached xs = inv-run xs [] start inv-start

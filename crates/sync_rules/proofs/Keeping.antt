@@ -12,7 +12,7 @@ use lib.Dec.{eqb, leb}
 use lib.ListN.{length, take, drop, length-drop}
 use lib.Seq.{drop-drop}
 use Rattle.sync_rules.specs.Matching.{sixteen, twoOf, matches, shows, inPlace, locksAt, firstOf}
-use Rattle.sync_rules.specs.Moves.{Move, Stay, Later, Earlier, moved, moveTo}
+use Rattle.sync_rules.specs.Moves.{Move, Stay, Later, Earlier, moved, moveBy, moveTo}
 use Rattle.sync_rules.specs.State.{State, Input, pending, pass, restore, counted, bring}
 use Rattle.sync_rules.specs.Frames.{Sent, ready, frontMove, follow, secondShift, secondAt, thirdShift, thirdAt, frameAt, leave, sendAt, sendShifted, send}
 use Rattle.sync_rules.specs.Pushes.{Out, tries, searchAt, search, drain, step}
@@ -21,6 +21,7 @@ use Rattle.bits.proofs.Ands.{both-true}
 use Rattle.bits.proofs.Conds.{cond-cases}
 use Rattle.bits.proofs.Tests.{cond-yes}
 use Rattle.sync_rules.proofs.Tests.{two-like}
+use Rattle.sync_rules.proofs.Order.{move-cases}
 use Rattle.sync_rules.proofs.Windows.{matches-like}
 use Rattle.sync_rules.proofs.Demands.{drain-one}
 use Rattle.sync_rules.proofs.Rides.{search-at, no-lock}
@@ -82,13 +83,10 @@ module _ (xs : List ℕ) (p k : ℕ) where
 
   moves-to : To (moveTo xs p k)
   unfolding moveTo moved
-  moves-to =
-      cond-cases To (matches xs p k) Stay _ (λ t. inl t)
-      (λ f. cond-cases To (matches xs (p + 2) k) Later _ (λ t. inl t)
-      (λ g. cond-cases To (matches xs (p - 2) k) Earlier Stay (λ t. inl t) (λ h. inr (refl, f, g, h))))
+  moves-to = move-cases To (matches xs p k) (matches xs (p + 2) k) (matches xs (p - 2) k) (λ t. inl t) (λ f t. inl t) (λ f g t. inl t) (λ f g h. inr (refl, f, g, h))
 
   stays : matches xs p k ≡ true → moveTo xs p k ≡ Stay
-  unfolding moveTo
+  unfolding moveTo moveBy
   stays t = sym (cond-yes (matches xs p k) (matches xs p k) Stay _ refl t)
 
   hits : {b : Bool} → b ≡ true → ((matches xs p k ≡ false) × (matches xs (p + 2) k ≡ false) × (matches xs (p - 2) k ≡ false) → b ≡ false) → matches xs (moved (moveTo xs p k) p) k ≡ true
@@ -180,11 +178,10 @@ module _ (m : State) (shown : shows (pending m) 0 ≡ true) where
   front-shows : sendShifted (frontMove m) (follow (frontMove m) m) .frame .matched ≡ true
   unfolding frontMove follow
   front-shows =
-      cond-cases (λ (v : Move). sendShifted v (follow v m) .frame .matched ≡ true) (matches (pending m) 0 0) Stay _ (λ t. stay-shows m Stay shown)
-      (λ w. cond-cases (λ (v : Move). sendShifted v (follow v m) .frame .matched ≡ true) (matches (pending m) 2 0) Later _ (later-shows w)
-      (λ v. cond-cases (λ (v : Move). sendShifted v (follow v m) .frame .matched ≡ true) (eqb (m .restorable) 2 && matches (m .held) 0 0) Earlier Stay
-      (λ t. let b = both-true (eqb (m .restorable) 2) (matches (m .held) 0 0) t in earlier-shows w (eqb-true (m .restorable) 2 (b .0)) (b .1))
-      (λ u. stay-shows m Stay shown)))
+      move-cases (λ (v : Move). sendShifted v (follow v m) .frame .matched ≡ true) (matches (pending m) 0 0) (matches (pending m) 2 0) (eqb (m .restorable) 2 && matches (m .held) 0 0)
+      (λ t. stay-shows m Stay shown) later-shows
+      (λ w v t. let b = both-true (eqb (m .restorable) 2) (matches (m .held) 0 0) t in earlier-shows w (eqb-true (m .restorable) 2 (b .0)) (b .1))
+      (λ w v u. stay-shows m Stay shown)
 
   in-place-shows : sendAt Stay m 128 256 .frame .matched ≡ true
   unfolding sendAt frameAt shows

@@ -1,4 +1,5 @@
 pub mod Tests
+pub mod Order
 pub mod Windows
 pub mod Taken
 pub mod Lying
@@ -11,4 +12,5 @@ pub mod Offsets
 pub mod Signed
 pub mod Slipped
 pub mod Accounts
+pub mod Reliabilities
 pub mod Stillness

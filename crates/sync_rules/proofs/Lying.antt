@@ -16,6 +16,7 @@ use Rattle.sync_rules.specs.Frames.{Sent, ready, frontMove, follow, seco
 use Rattle.sync_rules.specs.Pushes.{searchAt, search, Out, drain}
 use Rattle.bits.proofs.Conds.{cond-cases}
 use Rattle.bits.proofs.Ands.{both-true}
+use Rattle.sync_rules.proofs.Order.{move-cases}
 
 -- the held bits h, o of them restorable, are the last ones of the stream H
 pub record Lies (H h : List ℕ) (o : ℕ) : Type 0 where
@@ -69,32 +70,48 @@ like-same m = record { clock = refl; frames = refl; synchronised = refl; failure
 abbrev pub Bal : ℕ → State → Type 0
 Bal a m = a + 2 * m .earlier ≡ m .clock + 2 * m .later
 
+-- as many bits are restorable as stand before place a, two at most
+abbrev pub Whole : ℕ → State → Type 0
+Whole a m = m .restorable ≡ min 2 a
+
+-- a list is lain on from place k as a stream is: a part of what is held, with what it is beside
+pub slide : (W rel : List ℕ) (k n from : ℕ) → rel ≡ drop k W → k ≡ from → drop n rel ≡ drop (from + n) W
+slide W rel k n from h e = ap (drop n) h ∙ drop-drop n k W ∙ ap (λ (i : ℕ). drop (i + n) W) e
+
+-- from the state m, with the place a of its first pending bit, to n, whose held bits begin at `from`: the reliabilities lie beside the bits as they did
+abbrev pub Beside : State → ℕ → State → ℕ → Type 0
+Beside m a n from = (W : List ℕ) (k : ℕ) → k + m .restorable ≡ a → m .reliabilities ≡ drop k W → n .reliabilities ≡ drop from W
+
 -- the front of a frame, a symbol off at most
 pub record Fronts (H : List ℕ) (m : State) (a : ℕ) (n : State) : Type 0 where
   pub like : Like m n
   pub lies : Lies H (n .held) (n .restorable)
   pub near : (lies .from + n .restorable ≤ a + 2) × (a ≤ lies .from + n .restorable + 2)
   pub balance : Bal a m → Bal (lies .from + n .restorable) n
+  pub beside : Beside m a n (lies .from)
 
 module _ (H : List ℕ) (m : State) (l : Lies H (m .held) (m .restorable)) where
+  pub here : Beside m (l .from + m .restorable) m (l .from)
+  here W k e h = let z : k ≡ l .from = omega arith in h ∙ ap (λ (i : ℕ). drop i W) z
+
   front-here : Fronts H m (l .from + m .restorable) m
-  front-here = record { like = like-same m; lies = l; near = (omega arith, omega arith); balance = λ e. e }
+  front-here = record { like = like-same m; lies = l; near = (omega arith, omega arith); balance = λ e. e; beside = here }
 
   front-on : l .from + m .restorable + 2 ≤ length H → Fronts H m (l .from + m .restorable) (follow Later m)
   unfolding follow counted laters earliers pass lies-pass
-  front-on f = record { like = record { clock = refl; frames = refl; synchronised = refl; failures = refl; locked = refl; soft = refl }; lies = lies-pass H (m .held) (m .restorable) 2 l f; near = (omega arith, omega arith); balance = λ e. omega arith }
+  front-on f = record { like = record { clock = refl; frames = refl; synchronised = refl; failures = refl; locked = refl; soft = refl }; lies = lies-pass H (m .held) (m .restorable) 2 l f; near = (omega arith, omega arith); balance = λ e. omega arith; beside = λ W k e h. slide W (m .reliabilities) k _ (l .from) h (omega arith) }
 
   front-back : m .restorable ≡ 2 → Fronts H m (l .from + m .restorable) (follow Earlier m)
   unfolding follow counted laters earliers restore lies-restore
-  front-back two = let o = l .restorable in record { like = record { clock = refl; frames = refl; synchronised = refl; failures = refl; locked = refl; soft = refl }; lies = lies-restore H (m .held) (m .restorable) l; near = (omega arith, omega arith); balance = λ e. omega arith }
+  front-back two = let o = l .restorable in record { like = record { clock = refl; frames = refl; synchronised = refl; failures = refl; locked = refl; soft = refl }; lies = lies-restore H (m .held) (m .restorable) l; near = (omega arith, omega arith); balance = λ e. omega arith; beside = here }
 
   pub fronts : l .from + m .restorable + 2 ≤ length H → Fronts H m (l .from + m .restorable) (follow (frontMove m) m)
   unfolding frontMove follow
   fronts f =
-      let a = l .from + m .restorable in
-      cond-cases (λ (v : Move). Fronts H m a (follow v m)) (matches (pending m) 0 0) Stay _ (λ t. front-here)
-      (λ w. cond-cases (λ (v : Move). Fronts H m a (follow v m)) (matches (pending m) 2 0) Later _ (λ t. front-on f)
-      (λ v. cond-cases (λ (v : Move). Fronts H m a (follow v m)) (eqb (m .restorable) 2 && matches (m .held) 0 0) Earlier Stay (λ t. front-back (eqb-true (m .restorable) 2 (both-true (eqb (m .restorable) 2) (matches (m .held) 0 0) t .0))) (λ u. front-here)))
+      move-cases (λ (v : Move). Fronts H m (l .from + m .restorable) (follow v m)) (matches (pending m) 0 0) (matches (pending m) 2 0) (eqb (m .restorable) 2 && matches (m .held) 0 0)
+      (λ t. front-here) (λ w t. front-on f)
+      (λ w v t. front-back (eqb-true (m .restorable) 2 (both-true (eqb (m .restorable) 2) (matches (m .held) 0 0) t .0)))
+      (λ w v u. front-here)
 
 -- where a move leads, by how it is counted
 pub moved-by : (v : Move) (p : ℕ) → 2 ≤ p → moved v p + 2 * earliers v ≡ p + 2 * laters v
@@ -114,6 +131,8 @@ pub record Sends (H : List ℕ) (m : State) (a : ℕ) (s : Sent) : Type 0 where
   pub lies : Lies H (s .next .held) (s .next .restorable)
   pub far : a + 378 ≤ lies .from + s .next .restorable
   pub balance : Bal a m → Bal (lies .from + s .next .restorable) (s .next)
+  pub two : s .next .restorable ≡ 2
+  pub beside : Beside m a (s .next) (lies .from)
   pub offset : s .frame .offset ≡ m .clock
   pub clock : s .next .clock ≡ m .clock + 384
   pub frames : s .next .frames ≡ m .frames + 1
@@ -122,13 +141,15 @@ pub record Sends (H : List ℕ) (m : State) (a : ℕ) (s : Sent) : Type 0 where
   pub locked : s .next .locked ≡ cond (s .frame .matched) true (ltb (m .failures + 1) 3)
 
 sends-at : (H : List ℕ) (m : State) (a : ℕ) (n : State) → Like m n → (l : Lies H (n .held) (n .restorable)) → a ≤ l .from + n .restorable + 2 → (w : Move) (p q : ℕ) → (Bal a m → l .from + n .restorable + (q + 128) + 2 * n .earlier ≡ n .clock + 384 + 2 * n .later)
-    → 252 ≤ q → l .from + n .restorable + (q + 128) ≤ length H → Sends H m a (sendAt w n p q)
+    → 252 ≤ q → l .from + n .restorable + (q + 128) ≤ length H → Beside m a n (l .from) → Sends H m a (sendAt w n p q)
 unfolding sendAt leave pass frameAt lies-pass
-sends-at H m a n k l h w p q e g f =
+sends-at H m a n k l h w p q e g f along =
     record {
       lies = lies-pass H (n .held) (n .restorable) _ l (omega (arith, f));
       far = omega arith;
       balance = λ b. omega (arith, e b);
+      two = omega arith;
+      beside = λ W i u v. slide W (n .reliabilities) (l .from) _ (l .from) (along W i u v) refl;
       offset = k .clock;
       clock = ap (λ (z : ℕ). z + 384) (k .clock);
       frames = ap (λ (z : ℕ). z + 1) (k .frames);
@@ -153,7 +174,7 @@ sends-shifted H m a n o r f =
     let eq = moved-by w (p + 128) (omega arith) in
     let fq = moves-few w in
     let n1 = r .near .0 in
-    sends-at H m a (counted w (counted v n)) (like-counted m (counted v n) w (like-counted m n v (r .like))) (r .lies) (r .near .1) o p q (λ e. omega (arith, r .balance e)) (omega arith) (omega arith)
+    sends-at H m a (counted w (counted v n)) (like-counted m (counted v n) w (like-counted m n v (r .like))) (r .lies) (r .near .1) o p q (λ e. omega (arith, r .balance e)) (omega arith) (omega arith) (r .beside)
 
 -- ready: a lock, 384 bits pending, and 392 of a frame that is not in place
 pub record IsReady (m : State) : Type 0 where
@@ -199,7 +220,7 @@ sends H m l r =
     let a = l .from + m .restorable in
     let e = r .enough in
     cond-cases (λ s. Sends H m a s) (inPlace (pending m) 0) (sendAt Stay m 128 256) (sendShifted (frontMove m) (follow (frontMove m) m))
-    (λ t. sends-at H m a m (like-same m) l (omega arith) Stay 128 256 (λ e. omega arith) (omega arith) (omega arith))
+    (λ t. sends-at H m a m (like-same m) l (omega arith) Stay 128 256 (λ e. omega arith) (omega arith) (omega arith) (here H m l))
     (λ w. let g : 392 ≤ length (pending m) = r .more w in sends-shifted H m a (follow (frontMove m) m) (frontMove m) (fronts H m l (omega arith)) (omega arith))
 
 -- ---- what is held only shrinks once a push has brought its bits

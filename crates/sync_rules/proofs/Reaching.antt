@@ -66,7 +66,7 @@ brought-frames : (x : Input) (m : State) → bring x m .frames ≡ m .frames
 unfolding bring
 brought-frames x m = refl
 
-brought-soft : (x : Input) (m : State) → bring x m .soft ≡ (m .soft || x .soft)
+pub brought-soft : (x : Input) (m : State) → bring x m .soft ≡ (m .soft || x .soft)
 unfolding bring
 brought-soft x m = refl
 
@@ -91,11 +91,11 @@ stepped H x m i =
     }
 
 -- ---- several pushes
-or-assoc : (a b c : Bool) → ((a || b) || c) ≡ (a || (b || c))
+pub or-assoc : (a b c : Bool) → ((a || b) || c) ≡ (a || (b || c))
 or-assoc true b c = refl
 or-assoc false b c = refl
 
-or-false : (a : Bool) → a ≡ (a || false)
+pub or-false : (a : Bool) → a ≡ (a || false)
 or-false true = refl
 or-false false = refl
 
@@ -116,7 +116,7 @@ unfolding run
 run-frames [] H m i = omega arith
 run-frames (x ∷ xs) H m i = omega (arith, run-frames xs (H ++ two x) (step x m .next) (inv-step H x m i), stepped H x m i .frames, length-append (step x m .sent) (run xs (step x m .next) .sent))
 
-run-soft : (xs : List Input) (H : List ℕ) (m : State) → Inv H m → run xs m .next .soft ≡ (m .soft || everSoft xs)
+pub run-soft : (xs : List Input) (H : List ℕ) (m : State) → Inv H m → run xs m .next .soft ≡ (m .soft || everSoft xs)
 unfolding run everSoft
 run-soft [] H m i = or-false (m .soft)
 run-soft (x ∷ xs) H m i = run-soft xs (H ++ two x) (step x m .next) (inv-step H x m i) ∙ ap (λ (b : Bool). b || everSoft xs) (stepped H x m i .soft) ∙ or-assoc (m .soft) (x .soft) (everSoft xs)

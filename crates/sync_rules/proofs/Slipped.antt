@@ -21,7 +21,7 @@ pub same-moves : (f f′ s s′ t t′ : ℤ) → f ≡ f′ → s ≡ s′ → 
 same-moves f f′ s s′ t t′ p q r = cc
 
 -- ---- one move, by how it is counted
-abbrev by : Move → ℤ
+abbrev pub by : Move → ℤ
 by v = subℕ (2 * laters v) (2 * earliers v)
 
 pub front-told : (v : Move) (p q : ℕ) → movesAt v p q .front ≡ by v
@@ -53,10 +53,10 @@ slips-sum x v w u e f g =
     ∙ ap (λ (i : ℕ). (laters v + earliers v) + (laters w + earliers w) + i) (half u (x .third -ℤ x .second) g)
 
 -- ---- a frame, with the moves v, w and u to its front and to its segments
-abbrev told : Move → Move → Move → Moves
+abbrev pub told : Move → Move → Move → Moves
 told v w u = movesAt v (moved w 128) (moved u (moved w 128 + 128))
 
-second-told : (v w u : Move) → told v w u .second ≡ by w
+pub second-told : (v w u : Move) → told v w u .second ≡ by w
 unfolding moved laters earliers
 second-told v Stay u = refl
 second-told v Later u = refl
@@ -75,7 +75,7 @@ third-told v Earlier Later = refl
 third-told v Earlier Earlier = refl
 
 module _ (v w u : Move) where
-  further-told : told v w u .third -ℤ told v w u .second ≡ by u
+  pub further-told : told v w u .third -ℤ told v w u .second ≡ by u
   further-told =
       ap₂ (λ (y z : ℤ). y -ℤ z) (third-told v w u) (second-told v w u) ∙ sub-sub (2 * (laters w + laters u)) (2 * (earliers w + earliers u)) (2 * laters w) (2 * earliers w)
       ∙ sub-like (2 * (laters w + laters u) + 2 * earliers w) (2 * (earliers w + earliers u) + 2 * laters w) (2 * laters u) (2 * earliers u) (omega arith)

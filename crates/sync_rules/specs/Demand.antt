@@ -20,6 +20,11 @@ unfoldable pub stream : List Input → List ℕ
 stream [] = []
 stream (x ∷ xs) = x .dibit / 2 ∷ x .dibit % 2 ∷ stream xs
 
+-- the reliabilities of the stream's bits, two for each push
+unfoldable pub weights : List Input → List ℕ
+weights [] = []
+weights (x ∷ xs) = x .ofFirst ∷ x .ofSecond ∷ weights xs
+
 -- The push x ends a lock: held at some instant of it and not at its end. `search (bring x m)` is the state after the search, with the lock
 -- that was there before or was taken in this very push; after it only frames change the lock, and no search follows them in the push.
 -- So this is every loss of lock, without asking whether one push can both take and lose a lock. (None can: `LockRule`'s `found`, specs/Statements.antt.)

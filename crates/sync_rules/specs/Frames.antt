@@ -7,7 +7,7 @@ use lib.ListN.{length, take, drop}
 use lib.Dec.{leb, ltb, eqb}
 use Rattle.sync_rules.specs.declared.Moves.{Moves}
 use Rattle.sync_rules.specs.Matching.{matches, errors, twoOf, inPlace}
-use Rattle.sync_rules.specs.Moves.{Move, Stay, Later, Earlier, moved, inBits, movesAt, moveTo}
+use Rattle.sync_rules.specs.Moves.{Move, Stay, Later, Earlier, moved, inBits, movesAt, moveBy, moveTo}
 use Rattle.sync_rules.specs.State.{State, pending, pass, restore, counted}
 
 pub record Frame : Type 0 where
@@ -23,13 +23,11 @@ unfoldable pub ready : State → Bool
 unfolding inPlace
 ready m = m .locked && (leb 384 (length (pending m)) && (inPlace (pending m) 0 || leb 392 (length (pending m))))
 
--- the front move of a frame that is not in place: its first marker is in place, a symbol later, or a symbol earlier, where the two restorable bits begin
+-- the front move of a frame that is not in place: its first marker is looked for where it is due, a symbol later, and a symbol earlier, where the two
+-- restorable bits begin
 unfoldable pub frontMove : State → Move
-unfolding matches
-frontMove m =
-    cond (matches (pending m) 0 0) Stay
-    (cond (matches (pending m) 2 0) Later
-    (cond (eqb (m .restorable) 2 && matches (m .held) 0 0) Earlier Stay))
+unfolding moveBy matches
+frontMove m = moveBy (matches (pending m) 0 0) (matches (pending m) 2 0) (eqb (m .restorable) 2 && matches (m .held) 0 0)
 
 -- a front move made and counted
 unfoldable pub follow : Move → State → State

@@ -8,4 +8,5 @@ pub mod Demand
 pub mod Counts
 pub mod Statements
 pub mod Account
+pub mod Reliabilities
 pub mod Slips

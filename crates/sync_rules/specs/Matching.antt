@@ -8,7 +8,7 @@ use lib.ListN.{take, drop}
 use lib.Dec.{eqb}
 use lib.Bits.{differ}
 use Rattle.bits.specs.Bit.{digit, tab}
-use Rattle.coding.specs.Markers.{marker}
+use Rattle.coding_rules.specs.Markers.{marker}
 
 -- the number that bits spell after the number v, highest bit first
 unfoldable pub spell : ℕ → List ℕ → ℕ

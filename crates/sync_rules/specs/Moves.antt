@@ -1,7 +1,7 @@
 -- A symbol more or less in the stream moves a marker by two bits: where a segment is found, and how slips are counted.
 -- Assumes nothing.
 use mathlib.Core.List.{List}
-use mathlib.Core.Bool.{cond}
+use mathlib.Core.Bool.{Bool, cond}
 use Prim.Native.Nat.{ℕ, _+_, _-_}
 use lib.IntN.{ℤ, pos, negsuc, subℕ}
 use Rattle.sync_rules.specs.declared.Moves.{Moves}
@@ -43,7 +43,11 @@ earliers Stay = 0
 earliers Later = 0
 earliers Earlier = 1
 
--- the move to the marker of segment k, which should stand at place p: in place, else a symbol later, else a symbol earlier, else none
+-- the move by the tests of a marker where it is due, a symbol later and a symbol earlier: they are tried in this order, and if none holds there is none
+unfoldable pub moveBy : Bool → Bool → Bool → Move
+moveBy due later earlier = cond due Stay (cond later Later (cond earlier Earlier Stay))
+
+-- the move to the marker of segment k, which is due at place p
 unfoldable pub moveTo : List ℕ → ℕ → ℕ → Move
-unfolding matches
-moveTo xs p k = cond (matches xs p k) Stay (cond (matches xs (p + 2) k) Later (cond (matches xs (p - 2) k) Earlier Stay))
+unfolding moveBy matches
+moveTo xs p k = moveBy (matches xs p k) (matches xs (p + 2) k) (matches xs (p - 2) k)

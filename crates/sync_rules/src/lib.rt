@@ -3,6 +3,7 @@ ghost use mathlib.Core.Path.{_≡_};
 ghost use Rattle.sync_rules.specs.Moves.{noMoves};
 ghost use Rattle.sync_rules.specs.Demand.{demand3};
 ghost use Rattle.sync_rules.specs.Account.{accountRule};
+ghost use Rattle.sync_rules.specs.Reliabilities.{reliabilityRule};
 ghost use Rattle.sync_rules.specs.Statements.{rules, settledRule, gapRule, endRule, quietRule};
 ghost use Rattle.sync_rules.specs.Slips.{moveRule};
 
@@ -57,6 +58,11 @@ pub fn gap_rule()
 // Every bit before the first pending one was passed in a search, is in a frame, or was skipped by a followed slip.
 pub fn account_rule()
     ensures { λ _. ⌜ accountRule ⌝ }
+{}
+
+// A frame has reliabilities once a soft push has been made and none before, and hard bits count 255.
+pub fn reliability_rule()
+    ensures { λ _. ⌜ reliabilityRule ⌝ }
 {}
 
 // The end of the stream and the net slip are the bits pushed.

@@ -6,15 +6,15 @@ use mathlib.Core.Bool.{_||_}
 use Prim.Native.Nat.{ℕ, _+_, _/_, _%_, _≤_, _<_, _^_}
 use native.Mathlib.Omega.{arith}
 use lib.ListN.{length, set, length-set}
-use Rattle.sync_steps.specs.declared.numbers.Numbers.{Numbers}
-use Rattle.sync_steps.specs.Ring.{ring}
+use Rattle.sync_numbers.specs.declared.numbers.Numbers.{Numbers}
+use Rattle.sync_rings.specs.Ring.{ring}
 use Rattle.bits.specs.Bit.{Bits}
 use Rattle.bits.proofs.BelowSets.{below-set}
-use Rattle.sync_steps.specs.View.{viewOf, Steady}
+use Rattle.sync_numbers.specs.View.{viewOf, Steady}
 use Rattle.sync_steps.specs.Steps.{Brought, Searched, appendedTo}
 use Rattle.sync_rules.specs.State.{State, Input, bring}
 use Rattle.sync_rules.specs.Pushes.{search, drain, step}
-use Rattle.sync_steps.proofs.Rings.{ring-put}
+use Rattle.sync_rings.proofs.Rings.{ring-put}
 
 pub put-two : (xs : List ℕ) (f n a b : ℕ) → length xs ≡ 1155 → n + 2 ≤ 1155 → (m : ℕ) → m ≡ n + 1 + 1 → ring (set (set xs ((f + n) % 1155) a) ((f + n + 1) % 1155) b) f m ≡ ring xs f n ++ (a ∷ b ∷ [])
 put-two xs f n a b e h m em =

@@ -7,13 +7,13 @@ use native.Mathlib.Nat.{add-zero, zero-add}
 use native.Mathlib.Numerals.{add-one}
 use native.Mathlib.Omega.{arith}
 use lib.ListN.{length, drop, drop-of-length-le}
-use Rattle.sync_steps.specs.declared.numbers.Numbers.{Numbers}
-use Rattle.sync_steps.specs.declared.frames.Drained.{Drained}
+use Rattle.sync_numbers.specs.declared.numbers.Numbers.{Numbers}
+use Rattle.sync_frames.specs.declared.frames.Drained.{Drained}
 use Rattle.sync_steps.specs.declared.feeds.Into.{Into}
 use Rattle.sync_steps.specs.declared.Push.{Push}
 use Rattle.sync_steps.specs.declared.Push.the-variants.{Taken, Refused}
-use Rattle.sync_steps.specs.View.{viewOf, Steady, Few, Rings}
-use Rattle.sync_steps.specs.Steps.{nothingOf}
+use Rattle.sync_numbers.specs.View.{viewOf, Steady, Few, Rings}
+use Rattle.sync_frames.specs.Frames.{nothingOf}
 use Rattle.sync_steps.specs.Answers.{answerTo, pushOf, takes}
 use Rattle.sync_steps.specs.Feeds.{FedOut, oneMore, unlessSent, unlessRefused, fedOf, FedInto, intoOf}
 use Rattle.sync_rules.specs.State.{State, Input}

@@ -7,17 +7,19 @@ use Prim.Native.Nat.{ℕ, _+_, _-_, _≤_, _<_, min}
 use native.Mathlib.Omega.{arith}
 use native.Mathlib.Nat.{add-zero}
 use lib.ListN.{drop}
-use Rattle.sync_steps.specs.declared.numbers.Numbers.{Numbers}
-use Rattle.sync_steps.specs.declared.frames.Drained.{Drained}
-use Rattle.sync_steps.specs.Ring.{ring}
-use Rattle.sync_steps.specs.View.{viewOf, Steady, Few}
-use Rattle.sync_steps.specs.Steps.{Dropped, Searched, Looked, Waiting, SentAfter, DrainedBy, nothingOf, headsOf}
+use Rattle.sync_numbers.specs.declared.numbers.Numbers.{Numbers}
+use Rattle.sync_frames.specs.declared.frames.Drained.{Drained}
+use Rattle.sync_rings.specs.Ring.{ring}
+use Rattle.sync_numbers.specs.View.{viewOf, Steady, Few}
+use Rattle.sync_numbers.specs.Numbers.{Dropped}
+use Rattle.sync_frames.specs.Frames.{Looked, DrainedBy, nothingOf, headsOf}
+use Rattle.sync_steps.specs.Steps.{Searched, Waiting, SentAfter}
 use Rattle.sync_rules.specs.Matching.{firstOf, locksAt}
 use Rattle.sync_rules.specs.State.{State, pass}
 use Rattle.sync_rules.specs.Pushes.{drain}
 use Rattle.sync_steps.proofs.Searches.{unmoved, missed, moved-on}
-use Rattle.sync_steps.proofs.Looks.{short, asleep}
-use Rattle.sync_steps.proofs.Drains.{ends}
+use Rattle.sync_frames.proofs.Looks.{short, asleep}
+use Rattle.sync_frames.proofs.Drains.{ends}
 
 pass-none : (m : State) → m .restorable ≤ 2 → m ≡ pass 0 m
 unfolding pass

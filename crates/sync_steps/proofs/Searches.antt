@@ -8,15 +8,16 @@ use native.Mathlib.Omega.{arith}
 use borrow.Author.Tests.{lt-ltb, le-ltb}
 use lib.Dec.{ltb}
 use lib.ListN.{length}
-use Rattle.sync_steps.specs.declared.numbers.Numbers.{Numbers}
-use Rattle.sync_steps.specs.Ring.{ring}
-use Rattle.sync_steps.specs.View.{viewOf, Sound, Low}
-use Rattle.sync_steps.specs.Steps.{Dropped, Searched}
+use Rattle.sync_numbers.specs.declared.numbers.Numbers.{Numbers}
+use Rattle.sync_rings.specs.Ring.{ring}
+use Rattle.sync_numbers.specs.View.{viewOf, Sound, Low}
+use Rattle.sync_numbers.specs.Numbers.{Dropped}
+use Rattle.sync_steps.specs.Steps.{Searched}
 use Rattle.sync_rules.specs.Matching.{firstOf, locksAt}
 use Rattle.sync_rules.specs.State.{State, pending, pass}
 use Rattle.sync_rules.specs.Pushes.{tries, search, searchAt}
-use Rattle.sync_steps.proofs.Rings.{length-ring}
-use Rattle.sync_steps.proofs.Finds.{pending-ring}
+use Rattle.sync_rings.proofs.Rings.{length-ring}
+use Rattle.sync_numbers.proofs.Pendings.{pending-ring}
 use Rattle.bits.proofs.Tests.{cond-yes, cond-no}
 
 abbrev pub moved-on : Numbers → ℕ → Bool → ℕ → Numbers

@@ -8,12 +8,13 @@ use lib.ListN.{length, take, drop}
 use Rattle.sync_steps.specs.declared.Push.{Push}
 use Rattle.sync_steps.specs.declared.Push.the-variants.{Taken, Refused}
 use Rattle.sync_steps.specs.declared.pushes.Given.{Given}
-use Rattle.sync_steps.specs.declared.frames.Drained.{Drained}
+use Rattle.sync_frames.specs.declared.frames.Drained.{Drained}
 use Rattle.sync_steps.specs.declared.feeds.Into.{Into}
 use Rattle.sync_steps.specs.declared.feeds.Source.{Source}
 use Rattle.sync_steps.specs.declared.feeds.Source.the-variants.{Hard, Soft, Packed, Stretch}
-use Rattle.sync_steps.specs.View.{Rings}
-use Rattle.sync_steps.specs.Steps.{inputOf, DrainedBy}
+use Rattle.sync_numbers.specs.View.{Rings}
+use Rattle.sync_frames.specs.Frames.{DrainedBy}
+use Rattle.sync_steps.specs.Steps.{inputOf}
 use Rattle.sync_steps.specs.Answers.{answerTo}
 use Rattle.sync_rules.specs.State.{State, Input, hard}
 use Rattle.sync_rules.specs.Frames.{Frame}

@@ -3,12 +3,9 @@ ghost use mathlib.Core.Path.{_≡_};
 ghost use mathlib.Core.List.{[], _∷_};
 ghost use Prim.Native.Nat.{_+_, _^_, _<_, _≤_};
 ghost use lib.ListN.{length, getD, take, drop};
-ghost use Rattle.sync_steps.specs.View.{Steady, Few, Rings, viewOf};
+ghost use Rattle.sync_numbers.specs.View.{Steady, Few, Rings, viewOf};
 ghost use Rattle.sync_steps.specs.Feeds.{GivenBy, FedInto, fedOf, hardly, softly, unpacked, inputsOf, noneGiven, intoOf};
 use super::Push;
-use super::frames::Drained;
-use super::frames::nothing;
-use super::numbers::Numbers;
 use super::pushes::Given;
 use super::pushes::answer_to;
 use super::pushes::brought;
@@ -17,6 +14,9 @@ use super::pushes::hard_given;
 use super::pushes::made;
 use super::pushes::sends;
 use super::pushes::soft_given;
+use sync_frames::Drained;
+use sync_frames::nothing;
+use sync_numbers::Numbers;
 
 // What is fed: hard dibits, dibits with two reliabilities each, bytes of four hard dibits, or of such bytes so many dibits at most.
 pub enum Source {

@@ -1,24 +1,23 @@
 // The parts of a push: its tests, its two bits, the search where there is no lock, and its frames.
 ghost use mathlib.Core.Path.{_≡_};
-ghost use mathlib.Core.Bool.{true, false};
+ghost use mathlib.Core.Bool.{true, false, _||_};
 ghost use mathlib.Core.List.{List};
 ghost use Prim.Native.Nat.{ℕ, _+_, _-_, _/_, _%_, _^_, _<_, _≤_};
 ghost use lib.ListN.{length, set};
 ghost use Rattle.bits.specs.Bit.{Bits};
-ghost use Rattle.sync_steps.specs.Ring.{ring};
-ghost use Rattle.sync_steps.specs.View.{Sound, Low, Steady, Rings, viewOf};
-ghost use Rattle.sync_steps.specs.Steps.{Brought, Searched, Waiting, SentAfter, inputOf, hardGiven, softGiven};
+ghost use Rattle.sync_rings.specs.Ring.{ring};
+ghost use Rattle.sync_numbers.specs.View.{Sound, Low, Steady, Rings, viewOf};
+ghost use Rattle.sync_steps.specs.Steps.{appendedTo, Brought, Searched, Waiting, SentAfter, inputOf, hardGiven, softGiven};
 ghost use Rattle.sync_steps.specs.Answers.{answerBy, takes};
 ghost use Rattle.sync_rules.specs.Matching.{firstOf, locksAt};
 ghost use Rattle.sync_rules.specs.Pushes.{quiet};
 use super::Push;
-use super::frames::Drained;
-use super::frames::drain;
-use super::markers::three_frames;
-use super::numbers::Numbers;
-use super::numbers::appended;
-use super::numbers::dropped;
 use bits::Refusal;
+use sync_frames::Drained;
+use sync_frames::drain;
+use sync_numbers::Numbers;
+use sync_numbers::dropped;
+use sync_rings::three_frames;
 
 // What a push brings: a dibit, the reliabilities of its two bits, and whether it is a soft push. `more` is false where there is none to make.
 pub struct Given {
@@ -29,7 +28,7 @@ pub struct Given {
     pub soft: bool,
 }
 
-// A hard push.
+// Makes a hard push: its bits count 255.
 pub fn hard_given(dibit: u8) -> Given
     ensures { λ r. ⌜ r ≡ hardGiven dibit ⌝ }
 {
@@ -42,7 +41,7 @@ pub fn hard_given(dibit: u8) -> Given
     }
 }
 
-// A soft push.
+// Makes a soft push.
 pub fn soft_given(dibit: u8, first: u8, second: u8) -> Given
     ensures { λ r. ⌜ r ≡ softGiven dibit first second ⌝ }
 {
@@ -55,7 +54,28 @@ pub fn soft_given(dibit: u8, first: u8, second: u8) -> Given
     }
 }
 
-// The first of `tries` places from `base` on where three frames show themselves, or `tries`.
+fn or(a: bool, b: bool) -> bool
+    ensures { λ r. ⌜ r ≡ (a || b) ⌝ }
+{
+    if a {
+        return true;
+    }
+    b
+}
+
+// Counts the two bits of a push, soft or not, as pending.
+pub fn appended(c: Numbers, soft: bool) -> Numbers
+    requires { ⌜ Steady c ⌝ ∗ ⌜ c .pending ≤ 1151 ⌝ ∗ ⌜ c .taken < 2 ^ 40 ⌝ }
+    ensures { λ r. ⌜ r ≡ appendedTo c soft ⌝ }
+{
+    let mut d = c;
+    d.pending = c.pending + 2;
+    d.taken = c.taken + 1;
+    d.soft = or(c.soft, soft);
+    d
+}
+
+// Finds the first of `tries` places from `base` on where three frames show themselves, or gives `tries`.
 fn find(bits: &[u8; 1155], base: usize, tries: usize) -> usize
     requires { ⌜ Bits (now bits) ⌝ ∗ ⌜ base < 2000 ⌝ ∗ ⌜ tries < 2000 ⌝ }
     ensures { λ r. ⌜ ((n : ℕ) → ((p : ℕ) → p < tries → p + 1152 ≤ n) → r ≡ firstOf (locksAt (ring (now (bits .entry)) base n)) 0 tries) ⌝ }
@@ -72,7 +92,7 @@ fn find(bits: &[u8; 1155], base: usize, tries: usize) -> usize
     pos
 }
 
-// At how many places 1,152 bits are pending.
+// Tells from how many places on 1,152 bits are pending.
 fn tries_of(pending: usize) -> usize
     ensures { λ r. ⌜ r ≡ pending - 1151 ⌝ }
 {
@@ -82,7 +102,7 @@ fn tries_of(pending: usize) -> usize
     pending - 1151
 }
 
-// The search, where there is no lock.
+// Searches where there is no lock: passes the bits up to the first place where three frames show themselves.
 fn search(bits: &[u8; 1155], c: Numbers) -> Numbers
     requires { ⌜ Bits (now bits) ⌝ ∗ ⌜ Sound c ⌝ ∗ ⌜ Low c ⌝ ∗ ⌜ (c .locked ≡ true → c .failures ≤ 2) ⌝ }
     ensures { λ r. ⌜ Searched (now (bits .entry)) c r ⌝ }
@@ -103,7 +123,7 @@ fn search(bits: &[u8; 1155], c: Numbers) -> Numbers
     d
 }
 
-// A place of the ring, round its end.
+// Gives a place of the ring, round its end.
 fn in_ring(place: usize) -> usize
     requires { ⌜ place < 2310 ⌝ }
     ensures { λ r. ⌜ r ≡ place % 1155 ⌝ }
@@ -114,7 +134,7 @@ fn in_ring(place: usize) -> usize
     place - 1155
 }
 
-// Two values put behind the held ones, which end before place `end`.
+// Puts two values behind the held ones, which end before place `end`.
 pub fn put(ring: &mut [u8; 1155], end: usize, first: u8, second: u8)
     requires { ⌜ length (now ring) ≡ 1155 ⌝ ∗ ⌜ end < 2309 ⌝ }
     ensures { λ r. ⌜ now (ring .exit) ≡ set (set (now (ring .entry)) (end % 1155) first) ((end + 1) % 1155) second ⌝ }
@@ -125,7 +145,7 @@ pub fn put(ring: &mut [u8; 1155], end: usize, first: u8, second: u8)
     ring[q] = second;
 }
 
-// The bits of a push and their reliabilities brought into the rings.
+// Brings the bits of a push and their reliabilities into the rings.
 pub(crate) fn brought(
     bits: &mut [u8; 1155],
     reliabilities: &mut [u8; 1155],
@@ -141,7 +161,7 @@ pub(crate) fn brought(
     appended(k, x.soft)
 }
 
-// The answer to a push: tests 1, 2 and 3 in this order.
+// Answers a push: makes tests 1, 2 and 3 in this order.
 pub fn answer_to(taken: u64, dibit: u8, room: usize) -> Push
     ensures { λ r. ⌜ r ≡ answerBy room dibit taken ⌝ }
 {
@@ -157,7 +177,7 @@ pub fn answer_to(taken: u64, dibit: u8, room: usize) -> Push
     Push::Taken
 }
 
-// How many pushes were made: 1, or 0 of a refused one.
+// Counts the pushes made: 1, or 0 of a refused one.
 pub fn made(answer: Push) -> usize
     ensures { λ r. ⌜ r ≡ takes answer ⌝ }
 {
@@ -167,7 +187,7 @@ pub fn made(answer: Push) -> usize
     }
 }
 
-// Whether bits enough are pending for a frame, or without a lock for a search. After most pushes they are not.
+// Tells whether bits enough are pending for a frame, or without a lock for a search. After most pushes they are not.
 pub fn enough(k: Numbers) -> bool
     ensures { λ r. ⌜ (r ≡ false → Waiting k) ⌝ }
 {
@@ -177,7 +197,7 @@ pub fn enough(k: Numbers) -> bool
     1152 <= k.pending
 }
 
-// Half of what is left of `most`, rounded down.
+// Gives half of what is left of `most`, rounded down.
 fn half_left(most: usize, pending: usize) -> usize
     ensures { λ r. ⌜ r ≡ (most - pending) / 2 ⌝ }
 {
@@ -187,7 +207,7 @@ fn half_left(most: usize, pending: usize) -> usize
     (most - pending) / 2
 }
 
-// How many pushes can follow of which none searches or sends, whatever stands in the rings.
+// Tells how many pushes can follow of which none searches or sends, whatever stands in the rings.
 pub fn quiet_of(k: Numbers) -> usize
     ensures { λ r. ⌜ ((bits reliabilities : List ℕ) → r ≡ quiet (viewOf bits reliabilities k)) ⌝ }
 {

@@ -2,7 +2,7 @@
 // number and the file's name, on the open file that the caller gives: standard error, where a program runs alone.
 ghost use mathlib.Core.Path.{_≡_};
 ghost use mathlib.Core.Bool.{true, false};
-ghost use Rattle.protected.specs.Table.{Admitted};
+ghost use Rattle.protected_rules.specs.Table.{Admitted};
 
 fn refuse(name: &[u8], errors: i32) -> bool
     ensures { λ r. ⌜ r ≡ false ⌝ }

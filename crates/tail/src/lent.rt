@@ -3,12 +3,11 @@ ghost use mathlib.Core.Path.{_≡_};
 ghost use mathlib.Core.Bool.{true};
 ghost use lib.ListN.{length};
 ghost use Rattle.bits.specs.Bit.{Bytes};
-ghost use Rattle.tail.specs.Repair.{repairOf};
-ghost use Rattle.tail.specs.Calls.{erasable, answerOf, writtenOver};
-use crate::Repairing;
-use crate::by_value::repair_by;
-use tail_making::put_back;
-use tail_steps::among_from;
+ghost use Rattle.tail_rules.specs.Repair.{repairOf};
+ghost use Rattle.tail_rules.specs.Calls.{erasable, answerOf, writtenOver};
+use tail_places::among_from;
+use tail_repair::repair_by;
+use tail_rules::Repairing;
 
 // At most six places, each at most 13, and none given twice?
 pub(crate) fn may_erase(places: &[u8]) -> bool
@@ -43,6 +42,14 @@ fn copied(tail: &[u8]) -> [u8; 14]
         i += 1;
     }
     out
+}
+
+// Writes the codeword over the lent tail.
+fn put_back(tail: &mut [u8], c: [u8; 14])
+    requires { ⌜ length (now tail) ≡ 14 ⌝ }
+    ensures { λ r. ⌜ now (tail .exit) ≡ c ⌝ }
+{
+    bits::copy(&c, tail);
 }
 
 // The repair of fourteen lent bytes: they are written only once a codeword has been found.

@@ -1,25 +1,18 @@
 // The tail of a word: fourteen bytes, eight of them free, with the roots 2^0 to 2^5, and its repair, with or without erased places.
-// The definitions are in specs/ (Repair.antt, Calls.antt), what they mean in specs/Statements.antt; the steps of the repair are the crate
-// `tail_steps`, and the making of a tail, whose call is named here too, is the crate `tail_making`.
+// The definitions, and what they mean, are in crate `tail_rules` (specs/Repair.antt, Calls.antt, RepairStatements.antt). Here a call tests what it is lent
+// and writes; the repair by value is the crate `tail_repair`, and the making of a tail, whose call is named here too, the crate `tail_making`.
 // The field's two tables are made once at the top of each call and lent to everything below.
 ghost use mathlib.Core.Path.{_≡_};
 ghost use mathlib.Core.List.{[]};
-ghost use Rattle.tail.specs.Calls.{tailAnswer, tailLeaves, wordAnswer, wordLeaves};
-ghost use Rattle.tail.specs.Statements.{RepairLaws};
+ghost use Rattle.tail_rules.specs.Calls.{tailAnswer, tailLeaves, wordAnswer, wordLeaves};
 use bits::Refusal;
 
-mod by_value;
 mod lent;
 
-pub use by_value::RepairedTail;
-pub use by_value::repair_by;
 pub use tail_making::encode_word;
-
-// What a repair answers: how many bytes it changed, or a refusal.
-pub enum Repairing {
-    Repaired(usize),
-    Refused(Refusal),
-}
+pub use tail_repair::RepairedTail;
+pub use tail_repair::repair_by;
+pub use tail_rules::Repairing;
 
 // The repair of a lent tail with places erased.
 pub fn repair_erasures(tail: &mut [u8], places: &[u8]) -> Repairing
@@ -63,8 +56,3 @@ pub fn repair_word(word: &mut [u8]) -> Repairing
     let none = [0u8; 1];
     repair_word_erasures(word, &none[..0])
 }
-
-// What the repair means, as one statement.
-pub fn repair_laws()
-    ensures { λ _. ⌜ RepairLaws ⌝ }
-{}

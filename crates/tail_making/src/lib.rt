@@ -1,8 +1,7 @@
 // The making of a word's tail, for the crate `tail`, which names the call, and for `voice_frame`: six bytes, their CRC-16 and six parity bytes.
-// The definitions are in specs/Encode.antt, what they mean in specs/Statements.antt.
+// The definitions are in crate `tail_rules`, specs/Encode.antt, what they mean in specs/MakingStatements.antt.
 ghost use mathlib.Core.Path.{_≡_};
-ghost use Rattle.tail_making.specs.Encode.{encodeAnswer, encodeLeaves};
-ghost use Rattle.tail_making.specs.Statements.{EncodeLaws};
+ghost use Rattle.tail_rules.specs.Encode.{encodeAnswer, encodeLeaves};
 use bits::Refusal;
 use bits::Writing;
 
@@ -10,7 +9,6 @@ mod by_value;
 mod lent;
 
 pub use by_value::tail_by;
-pub use lent::put_back;
 
 // The tail of a lent word made from its bytes 28 to 33.
 pub fn encode_word(word: &mut [u8]) -> Writing
@@ -23,8 +21,3 @@ pub fn encode_word(word: &mut [u8]) -> Writing
     lent::make_tail(&mut word[28..]);
     Writing::Written
 }
-
-// What the tail that is made is, as one statement.
-pub fn encode_laws()
-    ensures { λ _. ⌜ EncodeLaws ⌝ }
-{}

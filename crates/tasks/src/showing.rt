@@ -1,7 +1,7 @@
-// Prints a journal, a line for each record. The line is made by `lines::show_record`; this file reads, counts and prints.
+// Prints a journal, a line for each record. The line is made by `lines_records::show_record`; this file reads, counts and prints.
 ghost use mathlib.Core.Path.{_≡_};
 ghost use Prim.Native.Nat.{_+_, _<_, _≤_, _^_};
-use lines::What;
+use lines_rules::What;
 
 // How many records, frames and gaps were printed.
 pub struct Printed {
@@ -60,7 +60,7 @@ fn show_one(fd: i32, p: Printed) -> Tally
             printed: p,
         };
     }
-    let shown = lines::show_record(&record[..n], p.records);
+    let shown = lines_records::show_record(&record[..n], p.records);
     let line = shown.line;
     lines::print(line);
     let what = shown.what;

@@ -4,8 +4,8 @@ ghost use mathlib.Core.List.{List, [], _∷_, _++_};
 ghost use Prim.Native.Nat.{ℕ, _+_, _≤_};
 ghost use lib.ListN.{length};
 ghost use lib.Seq.{paste};
-ghost use Rattle.texts.specs.Decimal.{decimal, signedDecimal};
-ghost use Rattle.texts.specs.Text.{lineOf};
+ghost use Rattle.texts_rules.specs.Decimal.{decimal, signedDecimal};
+ghost use Rattle.texts_rules.specs.Text.{lineOf};
 use crate::Line;
 use bits::amount;
 

@@ -3,7 +3,7 @@ ghost use mathlib.Core.Path.{_≡_};
 ghost use Prim.Native.Nat.{_<_};
 ghost use Rattle.bits.specs.Bit.{tab};
 ghost use Rattle.io.specs.Digits.{glyph};
-ghost use Rattle.texts.specs.Text.{hexAt};
+ghost use Rattle.texts_rules.specs.Text.{hexAt};
 use bits::byte;
 
 // A digit of sixteen, in ASCII.

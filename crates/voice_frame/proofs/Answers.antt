@@ -1,4 +1,4 @@
--- What the public calls answer and leave, return by return.
+-- What the encoder answers and leaves, return by return.
 -- Assumes nothing.
 use mathlib.Core.Bool.{Bool, true, false, cond, _&&_}
 use mathlib.Core.List.{List}
@@ -9,14 +9,11 @@ use lib.ListN.{length}
 use borrow.Author.Tests.{eq-eqb, ne-eqb}
 use Rattle.bits.specs.declared.Refusal.the-variants.{Size, Table}
 use Rattle.bits.specs.declared.Writing.the-variants as writing
-use Rattle.coding.specs.Calls.{sizeAnswer, afterDescramble, afterScramble}
-use Rattle.coding.specs.Scramble.{descrambled, scrambled}
-use Rattle.protected.specs.Table.{admits}
-use Rattle.trials.specs.Calls.{encodeSized, encodeAnswer, encodeLeaves, answered, refusedBy, decodedBy}
-use Rattle.trials.specs.Encoded.{encodedWord}
-use Rattle.trials.specs.Trial.{Outcome}
-
--- ---- encoding
+use Rattle.coding_rules.specs.Calls.{sizeAnswer, afterScramble}
+use Rattle.coding_rules.specs.Scramble.{scrambled}
+use Rattle.protected_rules.specs.Table.{admits}
+use Rattle.voice_rules.specs.Calls.{encodeSized, encodeAnswer, encodeLeaves}
+use Rattle.voice_rules.specs.Encoded.{encodedWord}
 
 module _ (table payload envelope : List ℕ) (alternate : Bool) where
   module _ (e : encodeSized payload envelope ≡ false) where
@@ -55,19 +52,3 @@ module _ (table payload envelope : List ℕ) (alternate : Bool) where
         made-leaves =
             let e : afterScramble word envelope ≡ scrambled word = simp (eq-eqb (length envelope) 48 q, eq-eqb (length word) 42 l) in
             e ∙ ap scrambled w ∙ simp (eq-eqb (length payload) 20 p, eq-eqb (length envelope) 48 q, a)
-
--- ---- decoding
-
-pub descrambled-is : (envelope word : List ℕ) → length envelope ≡ 48 → length word ≡ 42 → afterDescramble envelope word ≡ descrambled envelope
-unfolding afterDescramble
-descrambled-is envelope word p q = simp (eq-eqb (length envelope) 48 p, eq-eqb (length word) 42 q)
-
-module _ (table envelope : List ℕ) (f : List ℕ → Outcome) where
-  pub other-size : (length envelope ≡ 48 → ⊥) → refusedBy Size ≡ decodedBy table envelope f
-  other-size h = simp (ne-eqb (length envelope) 48 h)
-
-  pub other-table : length envelope ≡ 48 → admits table ≡ false → refusedBy Table ≡ decodedBy table envelope f
-  other-table h a = simp (eq-eqb (length envelope) 48 h, a)
-
-  pub is-answered : length envelope ≡ 48 → admits table ≡ true → answered (f (descrambled envelope)) ≡ decodedBy table envelope f
-  is-answered h a = simp (eq-eqb (length envelope) 48 h, a)

@@ -2,11 +2,11 @@
 -- Assumes nothing.
 use mathlib.Core.List.{[]}
 use lib.ListN.{drop}
-use Rattle.protected.proofs.Admission.{admits-admitted, admitted-admits}
+use Rattle.protected_rules.proofs.Admission.{admits-admitted, admitted-admits}
 use Rattle.sync_steps.specs.Feeds.{hardly, softly, unpacked}
 use Rattle.sync_rules.specs.State.{hard}
-use Rattle.tail.proofs.ErasedPlaces.{not-erasable, erasable-not}
-use Rattle.tail.proofs.Searching.{means}
+use Rattle.tail_rules.proofs.ErasedPlaces.{not-erasable, erasable-not}
+use Rattle.tail_rules.proofs.Searching.{means}
 use Rattle.demands.specs.Demand1.{soft}
 use Rattle.demands.proofs.RefusedSizes as sizes
 use Rattle.demands.proofs.RefusedPushes.{push-refuses, feed-refuses}

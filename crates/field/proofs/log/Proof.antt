@@ -4,7 +4,8 @@ use mathlib.Core.Path.{_≡_, _∙_, ap, sym, subst}
 use mathlib.Core.List.{List}
 use Prim.Native.Nat.{ℕ, _<_}
 use lib.ListN.{getD}
-use Rattle.field.specs.Field.{Log, Logs}
+use Rattle.field_rules.specs.Field.{Log}
+use Rattle.field.specs.Lent.{Logs}
 use borrow.Author.Needs.{needs}
 use Rattle.field.proofs.log.Statement.{statement}
 use Rattle.field.proofs.log.Tie as tie

@@ -1,7 +1,7 @@
 -- `field::logs` meets its contract: here the constant is compared with the definition, entry by entry.
 -- Assumes nothing.
-use Rattle.field.specs.Field.{timesX}
-use Rattle.field.proofs.TableRules.{logs, logs-lt, logs-rule}
+use Rattle.field_rules.specs.Field.{timesX}
+use Rattle.field_rules.proofs.TableRules.{logs, logs-lt, logs-rule}
 use Rattle.field.proofs.logs.Statement.{statement}
 use Rattle.field.proofs.logs.Tie as tie
 

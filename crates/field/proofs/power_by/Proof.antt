@@ -2,7 +2,7 @@
 -- Assumes nothing.
 use mathlib.Core.Path.{_∙_}
 use native.Mathlib.Omega.{arith}
-use Rattle.field.proofs.Laws.{power-mod}
+use Rattle.field_rules.proofs.Laws.{power-mod}
 use borrow.Author.Needs.{needs}
 use Rattle.field.proofs.power_by.Statement.{statement}
 use Rattle.field.proofs.power_by.Tie as tie

@@ -1,7 +1,7 @@
 -- `field::powers` meets its contract: here the constant is compared with the definition, entry by entry.
 -- Assumes nothing.
-use Rattle.field.specs.Field.{timesX}
-use Rattle.field.proofs.TableRules.{powers, powers-rule}
+use Rattle.field_rules.specs.Field.{timesX}
+use Rattle.field_rules.proofs.TableRules.{powers, powers-rule}
 use Rattle.field.proofs.powers.Statement.{statement}
 use Rattle.field.proofs.powers.Tie as tie
 

@@ -3,9 +3,9 @@
 use mathlib.Core.Path.{_∙_, ap, sym}
 use Prim.Native.Nat.{ℕ}
 use native.Mathlib.Omega.{arith}
-use Rattle.field.specs.Field.{product}
-use Rattle.field.proofs.Products.{product-zero-l, product-zero-r}
-use Rattle.field.proofs.Laws.{product-by-logs}
+use Rattle.field_rules.specs.Field.{product}
+use Rattle.field_rules.proofs.Products.{product-zero-l, product-zero-r}
+use Rattle.field_rules.proofs.Laws.{product-by-logs}
 use borrow.Author.Needs.{needs}
 use Rattle.field.proofs.product_by.Statement.{statement}
 use Rattle.field.proofs.product_by.Tie as tie

@@ -3,8 +3,8 @@
 use mathlib.Core.Path.{_∙_, ap, sym}
 use Prim.Native.Nat.{ℕ}
 use native.Mathlib.Omega.{arith}
-use Rattle.field.specs.Field.{quotient}
-use Rattle.field.proofs.Laws.{quotient-zero, zero-quotient, quotient-by-logs}
+use Rattle.field_rules.specs.Field.{quotient}
+use Rattle.field_rules.proofs.Laws.{quotient-zero, zero-quotient, quotient-by-logs}
 use borrow.Author.Needs.{needs}
 use Rattle.field.proofs.quotient_by.Statement.{statement}
 use Rattle.field.proofs.quotient_by.Tie as tie

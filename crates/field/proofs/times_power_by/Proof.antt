@@ -3,8 +3,8 @@
 use mathlib.Core.Path.{_∙_, ap, sym}
 use Prim.Native.Nat.{ℕ}
 use native.Mathlib.Omega.{arith}
-use Rattle.field.specs.Field.{product, power}
-use Rattle.field.proofs.Products.{product-zero-l, power-add}
+use Rattle.field_rules.specs.Field.{product, power}
+use Rattle.field_rules.proofs.Products.{product-zero-l, power-add}
 use borrow.Author.Needs.{needs}
 use Rattle.field.proofs.times_power_by.Statement.{statement}
 use Rattle.field.proofs.times_power_by.Tie as tie

@@ -1,18 +1,111 @@
--- `replayed` keeps the synchroniser and the merger valid, and ends: the turns are counted down.
+-- `replayed` keeps the synchroniser and the merger valid and the case in the window, and ends: the turns are counted down.
 -- Assumes nothing.
-use Rattle.sync.specs.View as state
-use Rattle.merger.specs.States as states
 use mathlib.Core.Path.{_≡_}
 use lib.ListN.{length}
+use Rattle.sync.specs.View.{ValidSynchroniser}
+use Rattle.merger.specs.States.{ValidMerger}
+use Rattle.replay_list.specs.Windows.{Within}
 use borrow.Author.Needs.{needs}
 use Rattle.replay.proofs.replayed.Statement.{statement}
 use Rattle.replay.proofs.replayed.Tie as tie
 
 abbrev Inv-loop : tie.InvT-loop
-Inv-loop window₀ table₀ room₀ out₀ r₀ end₀ turns₀ window table room out r end turns = state.Valid (r .sync) × states.Valid (r .merger) × (length window ≡ length window₀) × (length table ≡ length table₀) × (length room ≡ length room₀) × (length out ≡ length out₀)
+Inv-loop window₀ table₀ room₀ out₀ sync₀ merger₀ tabled₀ c₀ t₀ turns₀ window table room out sync merger tabled c t turns =
+    ValidSynchroniser sync × ValidMerger merger × Within (length window) c × (length window ≡ length window₀) × (length table ≡ length table₀) × (length room ≡ length room₀) × (length out ≡ length out₀)
 
 abbrev μ-loop : tie.MeasureT-loop
-μ-loop window₀ table₀ room₀ out₀ r₀ end₀ turns₀ window table room out r end turns = turns
+μ-loop window₀ table₀ room₀ out₀ sync₀ merger₀ tabled₀ c₀ t₀ turns₀ window table room out sync merger tabled c t turns = turns
+
+sub-merged : tie.Need-sub-merged Inv-loop μ-loop
+sub-merged c =
+    let found = c .before .before .before .before .before .before .before .before .before .before .before .before .before .before .before .before .before .before .before .before .before in
+    let inside = found .case-after .ensures in
+    search needs
+
+part-merged-start : tie.Need-part-merged-start Inv-loop μ-loop
+part-merged-start c =
+    let found = c .before .before .before .before .before .before .before .before .before .before .before .before .before .before .before .before .before .before .before .before .before .before in
+    let inside = found .case-after .ensures in
+    search needs
+
+part-merged-end : tie.Need-part-merged-end Inv-loop μ-loop
+part-merged-end c =
+    let found = c .before .before .before .before .before .before .before .before .before .before .before .before .before .before .before .before .before .before .before .before .before .before in
+    let inside = found .case-after .ensures in
+    search needs
+
+merged-requires : tie.Need-merged-requires Inv-loop μ-loop
+merged-requires c κs =
+    let at-loop = c .before .before .before .before .before .before .before .before .before .before .before .before .before .before .before .before .before .before .before .before .before .before .before .before .before .before .before in
+    at-loop .loop .inv .1
+
+judged-requires : tie.Need-judged-requires Inv-loop μ-loop
+judged-requires c κs =
+    let found = c .before .before .before .before .before .before .before .before .before .before .before .before .before .before .before .before .before .before .before .before .before .before .before .before .before .before .before .before .before .before in
+    found .case-after .ensures
+
+same-length : tie.Need-same-length Inv-loop μ-loop
+same-length c =
+    let window = c .before .before .before .before .before .before .before .before .before .before .before .before .before .before .before .before .before .before .before .before .before .before .before .before .before .before .before .before .before .before .before .before in
+    let at-loop = window .before .before .before .before in
+    let now0 = window .window .given in
+    let before = at-loop .loop .inv .3 in
+    search needs
+
+same-length-2 : tie.Need-same-length-2 Inv-loop μ-loop
+same-length-2 c =
+    let table = c .before .before .before .before .before .before .before .before .before .before .before .before .before .before .before .before .before .before .before .before .before .before .before .before .before in
+    let at-loop = table .before .before .before .before .before .before .before .before .before .before .before in
+    let now0 = table .table .given in
+    let before = at-loop .loop .inv .4 in
+    search needs
+
+same-length-3 : tie.Need-same-length-3 Inv-loop μ-loop
+same-length-3 c =
+    let room = c .before .before .before .before .before .before .before .before .before .before .before .before .before .before .before .before in
+    let at-loop = room .before .before .before .before .before .before .before .before .before .before .before .before .before .before .before .before .before .before .before .before in
+    let now0 = room .room .given in
+    let before = at-loop .loop .inv .5 in
+    search needs
+
+same-length-4 : tie.Need-same-length-4 Inv-loop μ-loop
+same-length-4 c =
+    let three = c .before .before .before .before .before .before .before in
+    let two = three .before .before .before .before .before .before .before in
+    let one = two .before .before .before .before .before .before .before .before .before in
+    let at-loop = one .before .before .before .before .before .before .before .before .before .before .before .before .before in
+    let now0 = one .out .given in
+    let now1 = two .out2 .given in
+    let now2 = three .out3 .given in
+    let before = at-loop .loop .inv .6 in
+    search needs
+
+loop-less : tie.Need-loop-less Inv-loop μ-loop
+loop-less c =
+    let in-loop = c .before .before .before .before .before .before .before .before .before .before .before .before .before .before .before .before .before .before .before .before .before .before .before .before .before .before .before .before .before .before .before .before .before .before .before in
+    let more = in-loop .loop-test .taken in
+    search needs
+
+loop-again : tie.Need-loop-again Inv-loop μ-loop
+loop-again c =
+    let three = c .before .before .before .before .before .before .before in
+    let merged = three .before in
+    let two = merged .before .before .before .before .before .before in
+    let room = two .before .before in
+    let synchronised = room .before in
+    let one = synchronised .before .before .before .before .before .before in
+    let table = one .before .before in
+    let window = table .before .before .before .before .before .before .before in
+    let found = window .before in
+    let at-loop = found .before .before .before in
+    let inv = at-loop .loop .inv in
+    let w = window .window .given in
+    let k = table .table .given in
+    let r = room .room .given in
+    let o1 = one .out .given in
+    let o2 = two .out2 .given in
+    let o3 = three .out3 .given in
+    (synchronised .synchronised .ensures, merged .merged .ensures, found .case-after .ensures, search needs, search needs, search needs, search needs)
 
 pub replayed-spec : {M : Type 1} → statement M
 replayed-spec =
@@ -20,16 +113,32 @@ replayed-spec =
     (tie.spec
     Inv-loop
     μ-loop
+    (λ c κs. search needs)
+    (λ c κs. search needs)
+    (λ c κs. search needs)
     (λ c. search needs)
     (λ c. search needs)
     (λ c κs. search needs)
     (λ c. search needs)
     (λ c. search needs)
     (λ c. search needs)
+    (λ c κs. search needs)
     (λ c. search needs)
     (λ c. search needs)
     (λ c. search needs)
-    (λ c. (search needs, search needs, search needs, search needs, search needs, search needs))
+    (λ c κs. search needs)
+    sub-merged
+    part-merged-start
+    part-merged-end
+    merged-requires
+    judged-requires
+    same-length
+    same-length-2
+    same-length-3
+    same-length-4
+    (λ c. search needs)
+    loop-less
+    loop-again
     (λ c. search needs)
     (λ c. search needs)
     (λ c. search needs)

@@ -3,7 +3,7 @@
 use mathlib.Core.Path.{sym, _∙_}
 use mathlib.Core.Bool.{true≢false}
 use borrow.Author.Needs.{needs}
-use Rattle.protected.proofs.Admission.{admits-admitted}
+use Rattle.protected_rules.proofs.Admission.{admits-admitted}
 use Rattle.table_file.proofs.read.Statement.{statement}
 use Rattle.table_file.proofs.read.Tie as tie
 

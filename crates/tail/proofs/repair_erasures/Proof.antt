@@ -2,7 +2,7 @@
 -- Assumes nothing.
 use mathlib.Core.Path.{sym, _∙_}
 use borrow.Author.Tests.{not-true, not-false}
-use Rattle.tail.proofs.Called.{answer-size, leaves-size, answer-erasure, leaves-erasure, answer-repair, leaves-repair}
+use Rattle.tail_rules.proofs.RepairCalled.{answer-size, leaves-size, answer-erasure, leaves-erasure, answer-repair, leaves-repair}
 use borrow.Author.Needs.{needs}
 use Rattle.tail.proofs.repair_erasures.Statement.{statement}
 use Rattle.tail.proofs.repair_erasures.Tie as tie

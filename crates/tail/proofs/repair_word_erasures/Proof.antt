@@ -1,7 +1,7 @@
 -- `tail::repair_word_erasures` meets its contract: the last fourteen bytes are lent on.
 -- Assumes nothing.
 use mathlib.Core.Path.{_∙_}
-use Rattle.tail.proofs.Called.{word-size, word-size-leaves, word-answer, word-leaves}
+use Rattle.tail_rules.proofs.RepairCalled.{word-size, word-size-leaves, word-answer, word-leaves}
 use borrow.Author.Needs.{needs}
 use Rattle.tail.proofs.repair_word_erasures.Statement.{statement}
 use Rattle.tail.proofs.repair_word_erasures.Tie as tie

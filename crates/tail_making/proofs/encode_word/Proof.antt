@@ -1,6 +1,6 @@
 -- `tail_making::encode_word` meets its contract: the last fourteen bytes are lent on.
 -- Assumes nothing.
-use Rattle.tail_making.proofs.Called.{last-long, encode-size, encode-size-leaves, encode-answer, encode-leaves}
+use Rattle.tail_rules.proofs.MakingCalled.{last-long, encode-size, encode-size-leaves, encode-answer, encode-leaves}
 use borrow.Author.Needs.{needs}
 use Rattle.tail_making.proofs.encode_word.Statement.{statement}
 use Rattle.tail_making.proofs.encode_word.Tie as tie

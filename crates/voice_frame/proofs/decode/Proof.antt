@@ -2,12 +2,12 @@ use mathlib.Core.Path.{sym, ap, _∙_}
 use Prim.Native.Nat.{ℕ, _-_}
 use mathlib.Core.List.{List}
 use borrow.Author.Tests.{not-true, not-false}
-use Rattle.protected.proofs.Admission.{admits-admitted}
-use Rattle.trials.specs.Calls.{answered, decodeAnswer}
-use Rattle.trials.specs.Hard.{decodedWord}
-use Rattle.voice_frame.specs.Heard.{answerTo}
-use Rattle.voice_frame.proofs.Stages.{answer-told}
-use Rattle.voice_frame.proofs.Answers.{other-size, other-table, is-answered}
+use Rattle.protected_rules.proofs.Admission.{admits-admitted}
+use Rattle.voice_rules.specs.Calls.{answered, decodeAnswer}
+use Rattle.voice_rules.specs.Hard.{decodedWord}
+use Rattle.voice_speech.specs.Heard.{answerTo}
+use Rattle.voice_speech.proofs.Answering.{answer-told}
+use Rattle.voice_speech.proofs.Answering.{other-size, other-table, is-answered}
 use borrow.Author.Needs.{needs}
 use Rattle.voice_frame.proofs.decode.Statement.{statement}
 use Rattle.voice_frame.proofs.decode.Tie as tie

@@ -3,8 +3,8 @@ use Prim.Native.Nat.{_-_}
 use mathlib.Core.Bool.{cond}
 use lib.ListN.{length}
 use borrow.Author.Tests.{not-true, not-false}
-use Rattle.protected.proofs.Admission.{admits-admitted}
-use Rattle.trials.specs.Encoded.{encodedWord}
+use Rattle.protected_rules.proofs.Admission.{admits-admitted}
+use Rattle.voice_rules.specs.Encoded.{encodedWord}
 use Rattle.voice_frame.proofs.Answers.{size-answer, size-leaves, short-payload, short-envelope, table-answer, table-leaves, made-answer, made-leaves}
 use borrow.Author.Needs.{needs}
 use Rattle.voice_frame.proofs.encode.Statement.{statement}

@@ -1,12 +1,12 @@
 use mathlib.Core.Path.{ap, ap₂, _∙_}
 use Prim.Native.Nat.{ℕ, _-_}
 use mathlib.Core.List.{List}
-use Rattle.protected.specs.Convolution.{convolved}
-use Rattle.protected.specs.Word.{withCoded}
-use Rattle.protected.proofs.CodedBits.{convolved-bits}
-use Rattle.trials.specs.Encoded.{withTail, withMode, joined}
-use Rattle.protected.proofs.InputBits.{input-input}
-use Rattle.trials.specs.Encoded.{encodedWord}
+use Rattle.protected_rules.specs.Convolution.{convolved}
+use Rattle.protected_rules.specs.Word.{withCoded}
+use Rattle.protected_rules.proofs.CodedBits.{convolved-bits}
+use Rattle.voice_rules.specs.Encoded.{withTail, withMode, joined}
+use Rattle.protected_rules.proofs.InputBits.{input-input}
+use Rattle.voice_rules.specs.Encoded.{encodedWord}
 use borrow.Author.Needs.{needs}
 use Rattle.voice_frame.proofs.encode_word.Statement.{statement}
 use Rattle.voice_frame.proofs.encode_word.Tie as tie

@@ -4,8 +4,8 @@ use mathlib.Core.Path.{_≡_, ap, _∙_}
 use Prim.Native.Nat.{ℕ, _+_, _-_, _*_, _≤_}
 use lib.ListN.{length}
 use Rattle.bits.specs.Bit.{bitHi}
-use Rattle.coding.specs.Crc.{crcRun}
-use Rattle.coding.proofs.CrcLaws.{crc-none, crc-turn}
+use Rattle.coding_rules.specs.Crc.{crcRun}
+use Rattle.coding_rules.proofs.CrcLaws.{crc-none, crc-turn}
 use Rattle.coding.proofs.crc.crc16.Statement.{statement}
 use Rattle.coding.proofs.crc.crc16.Tie as tie
 

@@ -2,7 +2,7 @@ use borrow.Author.Needs.{needs}
 use native.Mathlib.Omega.{arith}
 use Prim.Native.Nat.{ℕ, _/_, _<_}
 use lib.Bits.{bitXor, xor-lt}
-use Rattle.coding.proofs.CrcLaws.{folded, byte-at-once}
+use Rattle.coding_rules.proofs.CrcLaws.{folded, byte-at-once}
 use Rattle.coding.proofs.crc.crc_byte.Statement.{statement}
 use Rattle.coding.proofs.crc.crc_byte.Tie as tie
 

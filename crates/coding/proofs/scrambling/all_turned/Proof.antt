@@ -3,7 +3,7 @@ use mathlib.Core.Path.{refl}
 use Prim.Native.Nat.{_-_}
 use lib.ListN.{getD}
 use Rattle.bits.proofs.Filling.{Filled, filled-none, filled-more, filled-all}
-use Rattle.coding.specs.Sequence.{turnedByte}
+use Rattle.coding_rules.specs.Sequence.{turnedByte}
 use Rattle.coding.proofs.scrambling.all_turned.Statement.{statement}
 use Rattle.coding.proofs.scrambling.all_turned.Tie as tie
 

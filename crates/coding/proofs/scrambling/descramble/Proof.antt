@@ -1,6 +1,6 @@
 use borrow.Author.Needs.{needs}
 use borrow.Author.Tests.{eq-eqb, ne-eqb}
-use Rattle.coding.specs.Calls.{sizeAnswer, afterDescramble}
+use Rattle.coding_rules.specs.Calls.{sizeAnswer, afterDescramble}
 use Rattle.coding.proofs.scrambling.descramble.Statement.{statement}
 use Rattle.coding.proofs.scrambling.descramble.Tie as tie
 

@@ -1,6 +1,6 @@
 use borrow.Author.Needs.{needs}
 use mathlib.Core.Path.{refl}
-use Rattle.coding.proofs.ScrambleLaws.{from-marker, from-data}
+use Rattle.coding_rules.proofs.ScrambleLaws.{from-marker, from-data}
 use Rattle.coding.proofs.scrambling.envelope_byte.Statement.{statement}
 use Rattle.coding.proofs.scrambling.envelope_byte.Tie as tie
 

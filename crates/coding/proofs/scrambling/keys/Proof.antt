@@ -1,7 +1,7 @@
 use mathlib.Core.Path.{refl}
 use Rattle.bits.specs.Bit.{number, tab}
-use Rattle.coding.specs.Scramble.{s}
-use Rattle.coding.specs.Sequence.{keyByte}
+use Rattle.coding_rules.specs.Scramble.{s}
+use Rattle.coding_rules.specs.Sequence.{keyByte}
 use Rattle.coding.proofs.scrambling.keys.Statement.{statement}
 use Rattle.coding.proofs.scrambling.keys.Tie as tie
 

@@ -3,7 +3,7 @@ use native.Mathlib.Omega.{arith}
 use mathlib.Core.Path.{_≡_, ap}
 use Prim.Native.Nat.{ℕ, _/_, _<_}
 use lib.ListN.{getD}
-use Rattle.coding.proofs.ScrambleLaws.{marker-lt, high-half, low-half}
+use Rattle.coding_rules.proofs.ScrambleLaws.{marker-lt, high-half, low-half}
 use Rattle.coding.proofs.scrambling.marker_byte.Statement.{statement}
 use Rattle.coding.proofs.scrambling.marker_byte.Tie as tie
 

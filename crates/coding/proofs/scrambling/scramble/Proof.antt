@@ -1,6 +1,6 @@
 use borrow.Author.Needs.{needs}
 use borrow.Author.Tests.{eq-eqb, ne-eqb}
-use Rattle.coding.specs.Calls.{sizeAnswer, afterScramble}
+use Rattle.coding_rules.specs.Calls.{sizeAnswer, afterScramble}
 use Rattle.coding.proofs.scrambling.scramble.Statement.{statement}
 use Rattle.coding.proofs.scrambling.scramble.Tie as tie
 

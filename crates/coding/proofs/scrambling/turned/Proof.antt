@@ -5,7 +5,7 @@ use lib.Dec.{eqb, eqb→eq}
 use borrow.Author.Needs.{needs}
 use Rattle.bits.specs.Bit.{number}
 use Rattle.bits.proofs.Computed.{below}
-use Rattle.coding.specs.Sequence.{turnedByte}
+use Rattle.coding_rules.specs.Sequence.{turnedByte}
 use Rattle.coding.proofs.scrambling.turned.Statement.{statement}
 use Rattle.coding.proofs.scrambling.turned.Tie as tie
 

@@ -1,7 +1,7 @@
 use borrow.Author.Needs.{needs}
 use Prim.Native.Nat.{_-_}
 use Rattle.bits.proofs.Filling.{Filled, filled-none, filled-more, filled-all}
-use Rattle.coding.specs.Scramble.{envelopeByte, scrambled}
+use Rattle.coding_rules.specs.Scramble.{envelopeByte, scrambled}
 use Rattle.coding.proofs.scrambling.write_envelope.Statement.{statement}
 use Rattle.coding.proofs.scrambling.write_envelope.Tie as tie
 

@@ -2,8 +2,8 @@ use borrow.Author.Needs.{needs}
 use Prim.Native.Nat.{ℕ, _+_, _-_, _*_}
 use Rattle.bits.specs.Bit.{number}
 use Rattle.bits.proofs.Filling.{Filled, filled-none, filled-more, filled-all}
-use Rattle.coding.specs.Scramble.{wordBit, descrambled}
-use Rattle.coding.proofs.ScrambleLaws.{word-byte}
+use Rattle.coding_rules.specs.Scramble.{wordBit, descrambled}
+use Rattle.coding_rules.proofs.ScrambleLaws.{word-byte}
 use Rattle.coding.proofs.scrambling.write_word.Statement.{statement}
 use Rattle.coding.proofs.scrambling.write_word.Tie as tie
 

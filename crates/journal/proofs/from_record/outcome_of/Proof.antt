@@ -1,6 +1,6 @@
 -- `outcome_of`: what is neither 0 nor 1 is the third.
 -- Assumes nothing.
-use Rattle.journal.proofs.Zeros.{outcome-rest}
+use Rattle.journal_rules.proofs.Zeros.{outcome-rest}
 use borrow.Author.Needs.{needs}
 use Rattle.journal.proofs.from_record.outcome_of.Statement.{statement}
 use Rattle.journal.proofs.from_record.outcome_of.Tie as tie

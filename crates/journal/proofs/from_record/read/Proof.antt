@@ -1,6 +1,6 @@
 -- `read`: by the length and the kind.
 -- Assumes nothing.
-use Rattle.journal.proofs.Readings.{read-by}
+use Rattle.journal_rules.proofs.Readings.{read-by}
 use denote.Ref.{now}
 use mathlib.Core.Bool.{true, false}
 use borrow.Author.Tests.{eq-eqb, ne-eqb}

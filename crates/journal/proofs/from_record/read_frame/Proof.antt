@@ -1,12 +1,12 @@
 -- `read_frame`: each return by one of the tests of a frame.
 -- Assumes nothing.
-use Rattle.journal.proofs.Readings.{frame-wrong, frame-may-not, frame-far, frame-fits, frame-not-1, frame-not-2, frame-not-3, frame-not-4, frame-yes}
-use Rattle.journal.specs.Record.{entryAt, mayCorrect}
-use Rattle.journal.specs.Reading.{offsetIn, figuresIn, outcomeAt}
-use Rattle.journal.specs.declared.Body.the-variants.{Frame}
-use Rattle.journal.specs.declared.Reading.the-variants.{Holds}
-use Rattle.journal.specs.declared.Reading.{Reading}
-use Rattle.journal.specs.declared.Outcome.{Outcome}
+use Rattle.journal_rules.proofs.Readings.{frame-wrong, frame-may-not, frame-far, frame-fits, frame-not-1, frame-not-2, frame-not-3, frame-not-4, frame-yes}
+use Rattle.journal_rules.specs.Record.{entryAt, mayCorrect}
+use Rattle.journal_rules.specs.Reading.{offsetIn, figuresIn, outcomeAt}
+use Rattle.journal_rules.specs.declared.Body.the-variants.{Frame}
+use Rattle.journal_rules.specs.declared.Reading.the-variants.{Holds}
+use Rattle.journal_rules.specs.declared.Reading.{Reading}
+use Rattle.journal_rules.specs.declared.Outcome.{Outcome}
 use borrow.Author.Tests.{not-true, not-false}
 use denote.Ref.{now}
 use lib.Dec.{eqb}

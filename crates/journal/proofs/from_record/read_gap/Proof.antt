@@ -1,10 +1,10 @@
 -- `read_gap`: each return by one of the tests of a gap.
 -- Assumes nothing.
-use Rattle.journal.proofs.Readings.{gap-few, gap-far, gap-fits, gap-not-1, gap-not-2, gap-not-3, gap-yes}
-use Rattle.journal.specs.Record.{entryAt}
-use Rattle.journal.specs.Reading.{offsetIn, lengthIn}
-use Rattle.journal.specs.declared.Body.the-variants.{Gap}
-use Rattle.journal.specs.declared.Reading.the-variants.{Holds}
+use Rattle.journal_rules.proofs.Readings.{gap-few, gap-far, gap-fits, gap-not-1, gap-not-2, gap-not-3, gap-yes}
+use Rattle.journal_rules.specs.Record.{entryAt}
+use Rattle.journal_rules.specs.Reading.{offsetIn, lengthIn}
+use Rattle.journal_rules.specs.declared.Body.the-variants.{Gap}
+use Rattle.journal_rules.specs.declared.Reading.the-variants.{Holds}
 use borrow.Author.Tests.{not-true, not-false}
 use denote.Ref.{now}
 use lib.ListN.{length, take}

@@ -5,9 +5,9 @@ use Prim.Native.Nat.{ℕ, _+_, _-_}
 use native.Mathlib.Omega.{arith}
 use borrow.Author.Needs.{needs}
 use Rattle.bits.proofs.Conds.{cond-lt, cond-ge}
-use Rattle.journal.specs.declared.Body.the-variants.{Gap}
-use Rattle.journal.specs.declared.Between.the-variants.{Gap as OneGap}
-use Rattle.journal.specs.Record.{entryAt}
+use Rattle.journal_rules.specs.declared.Body.the-variants.{Gap}
+use Rattle.journal_rules.specs.declared.Between.the-variants.{Gap as OneGap}
+use Rattle.journal_rules.specs.Record.{entryAt}
 use Rattle.journal.proofs.gaps.gap_after.Statement.{statement}
 use Rattle.journal.proofs.gaps.gap_after.Tie as tie
 

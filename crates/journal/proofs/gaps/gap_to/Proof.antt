@@ -2,8 +2,8 @@
 -- Assumes nothing.
 use mathlib.Core.Path.{sym, ap, _∙_}
 use borrow.Author.Needs.{needs}
-use Rattle.journal.specs.declared.Earlier.{Earlier}
-use Rattle.journal.specs.Gaps.{gapTo}
+use Rattle.journal_rules.specs.declared.Earlier.{Earlier}
+use Rattle.journal_rules.specs.Gaps.{gapTo}
 use Rattle.journal.proofs.gaps.gap_to.Statement.{statement}
 use Rattle.journal.proofs.gaps.gap_to.Tie as tie
 

@@ -1,6 +1,6 @@
 -- `all_zero`: all passed so far are zero.
 -- Assumes nothing.
-use Rattle.journal.proofs.Zeros.{zero-false, zero-true}
+use Rattle.journal_rules.proofs.Zeros.{zero-false, zero-true}
 use borrow.Author.Needs.{needs}
 use borrow.Author.Count.{below-none, below-more}
 use denote.Ref.{now}

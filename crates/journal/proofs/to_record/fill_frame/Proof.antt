@@ -8,7 +8,7 @@ use denote.Ref.{now}
 use lib.ListN.{length}
 use borrow.Author.Needs.{needs}
 use Rattle.bits.proofs.BigEndians.{length-big}
-use Rattle.journal.proofs.Filling.{starts-none, starts-more, starts-all}
+use Rattle.journal_rules.proofs.Filling.{starts-none, starts-more, starts-all}
 use Rattle.journal.proofs.to_record.fill_frame.Statement.{statement}
 use Rattle.journal.proofs.to_record.fill_frame.Tie as tie
 

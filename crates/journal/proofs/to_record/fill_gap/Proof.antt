@@ -8,7 +8,7 @@ use lib.ListN.{length, replicate}
 use borrow.Author.Needs.{needs}
 use Rattle.bits.specs.BigEndian.{bigEndian}
 use Rattle.bits.proofs.BigEndians.{length-big}
-use Rattle.journal.proofs.Filling.{starts-none, starts-more, starts-all}
+use Rattle.journal_rules.proofs.Filling.{starts-none, starts-more, starts-all}
 use Rattle.journal.proofs.to_record.fill_gap.Statement.{statement}
 use Rattle.journal.proofs.to_record.fill_gap.Tie as tie
 

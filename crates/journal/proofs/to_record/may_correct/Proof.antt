@@ -1,7 +1,7 @@
 -- `may_correct`, case by case.
 -- Assumes nothing.
-use Rattle.journal.specs.Record.{mayCorrect}
-use Rattle.journal.specs.declared.Outcome.{Outcome}
+use Rattle.journal_rules.specs.Record.{mayCorrect}
+use Rattle.journal_rules.specs.declared.Outcome.{Outcome}
 use mathlib.Core.Path.{sym, ap}
 use borrow.Author.Needs.{needs}
 use Rattle.journal.proofs.to_record.may_correct.Statement.{statement}

@@ -1,7 +1,7 @@
 -- `write`: by what the entry's body is.
 -- Assumes nothing.
-use Rattle.journal.specs.Record.{Wrote, entryAt}
-use Rattle.journal.specs.declared.Body.{Body}
+use Rattle.journal_rules.specs.Record.{Wrote, entryAt}
+use Rattle.journal_rules.specs.declared.Body.{Body}
 use denote.Ref.{now}
 use mathlib.Core.Path.{sym, ap, subst}
 use borrow.Author.Needs.{needs}

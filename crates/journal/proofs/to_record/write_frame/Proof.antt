@@ -1,9 +1,9 @@
 -- `write_frame`: each return by one of the rules.
 -- Assumes nothing.
-use Rattle.journal.proofs.Records.{written, refused, wrong-size}
-use Rattle.journal.specs.Record.{Wrote, entryAt, mayCorrect}
+use Rattle.journal_rules.proofs.Records.{written, refused, wrong-size}
+use Rattle.journal_rules.specs.Record.{Wrote, entryAt, mayCorrect}
 use Rattle.bits.specs.declared.Writing.the-variants.{Written}
-use Rattle.journal.specs.declared.Body.the-variants.{Frame}
+use Rattle.journal_rules.specs.declared.Body.the-variants.{Frame}
 use borrow.Author.Tests.{eq-eqb, ne-eqb, le-leb, lt-leb, not-true, not-false}
 use denote.Ref.{now}
 use lib.ListN.{length}

@@ -1,9 +1,9 @@
 -- `write_gap`: each return by one of the rules.
 -- Assumes nothing.
-use Rattle.journal.proofs.Records.{written, refused}
-use Rattle.journal.specs.Record.{Wrote, entryAt}
+use Rattle.journal_rules.proofs.Records.{written, refused}
+use Rattle.journal_rules.specs.Record.{Wrote, entryAt}
 use Rattle.bits.specs.declared.Writing.the-variants.{Written}
-use Rattle.journal.specs.declared.Body.the-variants.{Gap}
+use Rattle.journal_rules.specs.declared.Body.the-variants.{Gap}
 use borrow.Author.Tests.{eq-eqb, ne-eqb, le-leb, lt-leb}
 use denote.Ref.{now}
 use lib.ListN.{length}

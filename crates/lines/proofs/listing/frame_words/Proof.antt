@@ -5,8 +5,8 @@ use mathlib.Core.Path.{_≡_, ap, _∙_}
 use Prim.Native.Nat.{ℕ}
 use native.Mathlib.Omega.{arith}
 use borrow.Author.Needs.{needs}
-use Rattle.texts.specs.Text.{lineOf}
-use Rattle.lines.specs.Text.{spaced}
+use Rattle.texts_rules.specs.Text.{lineOf}
+use Rattle.lines_rules.specs.Text.{spaced}
 use Rattle.lines.proofs.listing.frame_words.Statement.{statement}
 use Rattle.lines.proofs.listing.frame_words.Tie as tie
 

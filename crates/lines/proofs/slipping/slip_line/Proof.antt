@@ -4,9 +4,9 @@ use mathlib.Core.Path.{_≡_, _∙_}
 use mir.Syntax.{w64}
 use borrow.Author.Needs.{needs}
 use Rattle.bits.proofs.Signs.{kept, back}
-use Rattle.texts.specs.Text.{lineOf}
-use Rattle.lines.specs.Text.{slipText}
-use Rattle.lines.proofs.Numbers.{slip-same}
+use Rattle.texts_rules.specs.Text.{lineOf}
+use Rattle.lines_rules.specs.Text.{slipText}
+use Rattle.lines_rules.proofs.Numbers.{slip-same}
 use Rattle.lines.proofs.slipping.slip_line.Statement.{statement}
 use Rattle.lines.proofs.slipping.slip_line.Tie as tie
 

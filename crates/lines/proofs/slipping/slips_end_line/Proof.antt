@@ -4,8 +4,8 @@ use mathlib.Core.Path.{ap, _∙_}
 use lib.IntN.{ℤ}
 use borrow.Author.Needs.{needs}
 use Rattle.bits.proofs.Signs.{back}
-use Rattle.texts.specs.Text.{lineOf}
-use Rattle.lines.specs.Text.{slipsEndText}
+use Rattle.texts_rules.specs.Text.{lineOf}
+use Rattle.lines_rules.specs.Text.{slipsEndText}
 use Rattle.lines.proofs.slipping.slips_end_line.Statement.{statement}
 use Rattle.lines.proofs.slipping.slips_end_line.Tie as tie
 

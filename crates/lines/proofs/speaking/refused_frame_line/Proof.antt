@@ -3,8 +3,8 @@
 use mathlib.Core.Path.{ap, _∙_}
 use Prim.Native.Nat.{ℕ}
 use borrow.Author.Needs.{needs}
-use Rattle.texts.specs.Text.{lineOf}
-use Rattle.lines.specs.Text.{refusedText}
+use Rattle.texts_rules.specs.Text.{lineOf}
+use Rattle.lines_rules.specs.Text.{refusedText}
 use Rattle.lines.proofs.speaking.refused_frame_line.Statement.{statement}
 use Rattle.lines.proofs.speaking.refused_frame_line.Tie as tie
 

@@ -4,8 +4,8 @@ use mathlib.Core.List.{List, [], _∷_, _++_}
 use mathlib.Core.Path.{ap, _∙_}
 use Prim.Native.Nat.{ℕ}
 use borrow.Author.Needs.{needs}
-use Rattle.texts.specs.Text.{lineOf}
-use Rattle.lines.specs.Text.{spaced, lineFeed}
+use Rattle.texts_rules.specs.Text.{lineOf}
+use Rattle.lines_rules.specs.Text.{spaced, lineFeed}
 use Rattle.lines.proofs.speaking.speech_line.Statement.{statement}
 use Rattle.lines.proofs.speaking.speech_line.Tie as tie
 

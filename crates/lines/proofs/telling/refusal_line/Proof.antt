@@ -3,8 +3,8 @@
 use mathlib.Core.Path.{ap, _∙_}
 use Prim.Native.Nat.{ℕ}
 use borrow.Author.Needs.{needs}
-use Rattle.texts.specs.Text.{lineOf}
-use Rattle.lines.specs.Text.{refusalText}
+use Rattle.texts_rules.specs.Text.{lineOf}
+use Rattle.lines_rules.specs.Text.{refusalText}
 use Rattle.lines.proofs.telling.refusal_line.Statement.{statement}
 use Rattle.lines.proofs.telling.refusal_line.Tie as tie
 

@@ -1,7 +1,7 @@
 -- `sync::Synchroniser::pending_bits` meets its contract.
 -- Assumes nothing.
 use mathlib.Core.Path.{sym}
-use Rattle.sync_steps.proofs.Finds.{pending-is}
+use Rattle.sync_numbers.proofs.Pendings.{pending-is}
 use Rattle.sync.proofs.Synchroniser.pending_bits.Statement.{statement}
 use Rattle.sync.proofs.Synchroniser.pending_bits.Tie as tie
 

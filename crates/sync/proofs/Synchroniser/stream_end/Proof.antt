@@ -2,7 +2,7 @@
 -- Assumes nothing.
 use borrow.Author.Needs.{needs}
 use native.Mathlib.Omega.{arith}
-use Rattle.sync_steps.proofs.Finds.{pending-is}
+use Rattle.sync_numbers.proofs.Pendings.{pending-is}
 use Rattle.sync.proofs.Synchroniser.stream_end.Statement.{statement}
 use Rattle.sync.proofs.Synchroniser.stream_end.Tie as tie
 

@@ -5,7 +5,7 @@ use Prim.Native.Nat.{_-_}
 use native.Mathlib.Omega.{arith}
 use denote.Ref.{now}
 use lib.ListN.{length}
-use Rattle.sync_steps.specs.View.{viewOf}
+use Rattle.sync_numbers.specs.View.{viewOf}
 use Rattle.sync_steps.specs.Steps.{inputOf}
 use Rattle.sync_steps.specs.Answers.{takes}
 use Rattle.sync_steps.specs.Feeds.{inputsOf}

@@ -5,9 +5,9 @@ use native.Mathlib.Omega.{arith}
 use native.Mathlib.Nat.{sub-zero}
 use Prim.Native.Nat.{ℕ, _+_, _-_, _≤_, _<_}
 use denote.Ref.{now}
-use Rattle.sync_steps.specs.Ring.{ring}
+use Rattle.sync_rings.specs.Ring.{ring}
 use Rattle.sync_rules.specs.Matching.{firstOf, locksAt}
-use Rattle.sync_steps.proofs.Finds.{first-here, first-next, first-none}
+use Rattle.sync_steps.proofs.Firsts.{first-here, first-next, first-none}
 use borrow.Author.Needs.{needs}
 use Rattle.sync_steps.proofs.pushes.find.Statement.{statement}
 use Rattle.sync_steps.proofs.pushes.find.Tie as tie

@@ -8,9 +8,9 @@ use lib.ListN.{length}
 use borrow.Author.Needs.{needs}
 use Rattle.sync_rules.specs.State.{State, pending}
 use Rattle.sync_rules.specs.Pushes.{quiet}
-use Rattle.sync_steps.specs.declared.numbers.Numbers.{Numbers}
-use Rattle.sync_steps.specs.View.{viewOf}
-use Rattle.sync_steps.proofs.Finds.{pending-is}
+use Rattle.sync_numbers.specs.declared.numbers.Numbers.{Numbers}
+use Rattle.sync_numbers.specs.View.{viewOf}
+use Rattle.sync_numbers.proofs.Pendings.{pending-is}
 use Rattle.sync_steps.proofs.pushes.quiet_of.Statement.{statement}
 use Rattle.sync_steps.proofs.pushes.quiet_of.Tie as tie
 

@@ -4,7 +4,7 @@ use mathlib.Core.Path.{_≡_, refl, sym, ap, _∙_}
 use native.Mathlib.Omega.{arith}
 use Prim.Native.Nat.{ℕ, _+_, _-_}
 use denote.Ref.{now}
-use Rattle.sync_steps.specs.Ring.{ring}
+use Rattle.sync_rings.specs.Ring.{ring}
 use Rattle.sync_rules.specs.Matching.{firstOf, locksAt}
 use Rattle.sync_steps.proofs.Searches.{unmoved, found, missed}
 use borrow.Author.Needs.{needs}

@@ -2,11 +2,12 @@
 -- Assumes nothing.
 use mathlib.Core.Path.{_≡_, subst}
 use mathlib.Core.List.{List}
-use Rattle.sync_steps.specs.declared.numbers.Numbers.{Numbers}
-use Rattle.sync_steps.specs.declared.frames.Drained.{Drained}
+use Rattle.sync_numbers.specs.declared.numbers.Numbers.{Numbers}
+use Rattle.sync_frames.specs.declared.frames.Drained.{Drained}
 use Prim.Native.Nat.{ℕ}
-use Rattle.sync_steps.specs.View.{viewOf}
-use Rattle.sync_steps.specs.Steps.{Searched, DrainedBy, SentAfter}
+use Rattle.sync_numbers.specs.View.{viewOf}
+use Rattle.sync_frames.specs.Frames.{DrainedBy}
+use Rattle.sync_steps.specs.Steps.{Searched, SentAfter}
 use Rattle.sync_rules.specs.State.{State}
 use Rattle.sync_rules.specs.Pushes.{drain}
 use Rattle.sync_steps.proofs.Bringing.{steady-two}

@@ -5,8 +5,8 @@ use Prim.Native.Nat.{_-_, _≤_}
 use native.Mathlib.Omega.{arith}
 use lib.ListN.{length, drop}
 use borrow.Author.Needs.{needs}
-use Rattle.tail.specs.Calls.{eachOnce}
-use Rattle.tail.proofs.ErasedPlaces.{once-high, once-twice, once-later, once-end, erasable-few, erasable-many}
+use Rattle.tail_rules.specs.Calls.{eachOnce}
+use Rattle.tail_rules.proofs.ErasedPlaces.{once-high, once-twice, once-later, once-end, erasable-few, erasable-many}
 use Rattle.tail.proofs.lent.may_erase.Statement.{statement}
 use Rattle.tail.proofs.lent.may_erase.Tie as tie
 

@@ -3,10 +3,10 @@
 use mathlib.Core.List.{List}
 use mathlib.Core.Path.{sym, ap, _∙_}
 use Prim.Native.Nat.{ℕ}
-use Rattle.tail.specs.Repair.{repairOf}
-use Rattle.tail.specs.Calls.{answerOf, tailIn}
-use Rattle.tail.proofs.Called.{written-found, written-refused}
-use Rattle.tail.proofs.ErasedPlaces.{few-of, inside-of}
+use Rattle.tail_rules.specs.Repair.{repairOf}
+use Rattle.tail_rules.specs.Calls.{answerOf, tailIn}
+use Rattle.tail_rules.proofs.RepairCalled.{written-found, written-refused}
+use Rattle.tail_rules.proofs.ErasedPlaces.{few-of, inside-of}
 use borrow.Author.Needs.{needs}
 use Rattle.tail.proofs.lent.repair_lent.Statement.{statement}
 use Rattle.tail.proofs.lent.repair_lent.Tie as tie

@@ -4,7 +4,7 @@ use mathlib.Core.Path.{_≡_}
 use native.Mathlib.Omega.{arith}
 use lib.ListN.{length}
 use borrow.Author.Needs.{needs}
-use Rattle.tail_making.proofs.Written.{joined-is}
+use Rattle.tail_rules.proofs.Written.{joined-is}
 use Rattle.tail_making.proofs.by_value.joined.Statement.{statement}
 use Rattle.tail_making.proofs.by_value.joined.Tie as tie
 

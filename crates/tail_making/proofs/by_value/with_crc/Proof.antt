@@ -5,7 +5,7 @@ use Prim.Native.Nat.{_<_}
 use native.Mathlib.Omega.{arith}
 use lib.ListN.{length}
 use borrow.Author.Needs.{needs}
-use Rattle.tail_making.proofs.Written.{crc-is}
+use Rattle.tail_rules.proofs.Written.{crc-is}
 use Rattle.tail_making.proofs.by_value.with_crc.Statement.{statement}
 use Rattle.tail_making.proofs.by_value.with_crc.Tie as tie
 

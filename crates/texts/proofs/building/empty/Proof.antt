@@ -2,7 +2,7 @@
 -- Assumes nothing.
 use mathlib.Core.Path.{refl}
 use borrow.Author.Needs.{needs}
-use Rattle.texts.specs.Text.{lineOf}
+use Rattle.texts_rules.specs.Text.{lineOf}
 use Rattle.texts.proofs.building.empty.Statement.{statement}
 use Rattle.texts.proofs.building.empty.Tie as tie
 

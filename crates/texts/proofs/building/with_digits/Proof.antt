@@ -6,9 +6,9 @@ use Prim.Native.Nat.{ℕ, _+_}
 use native.Mathlib.Omega.{arith}
 use lib.ListN.{take}
 use borrow.Author.Needs.{needs}
-use Rattle.texts.specs.Decimal.{decimal}
-use Rattle.texts.specs.Text.{lineOf}
-use Rattle.texts.proofs.Spelling.{fewest-digits, fewest-twenty}
+use Rattle.texts_rules.specs.Decimal.{decimal}
+use Rattle.texts_rules.specs.Text.{lineOf}
+use Rattle.texts_rules.proofs.Spelling.{fewest-digits, fewest-twenty}
 use Rattle.texts.proofs.building.with_digits.Statement.{statement}
 use Rattle.texts.proofs.building.with_digits.Tie as tie
 

@@ -4,8 +4,8 @@ use mathlib.Core.List.{[], _∷_, _++_, append-assoc}
 use mathlib.Core.Path.{ap, _∙_}
 use native.Mathlib.Omega.{arith}
 use borrow.Author.Needs.{needs}
-use Rattle.texts.specs.Decimal.{decimal}
-use Rattle.texts.specs.Text.{lineOf}
+use Rattle.texts_rules.specs.Decimal.{decimal}
+use Rattle.texts_rules.specs.Text.{lineOf}
 use Rattle.texts.proofs.building.with_number.Statement.{statement}
 use Rattle.texts.proofs.building.with_number.Tie as tie
 

@@ -9,9 +9,9 @@ use mir.Syntax.{w64}
 use mir.Val.{SFits}
 use borrow.Author.Needs.{needs}
 use Rattle.bits.proofs.Signs.{kept, back, same-test}
-use Rattle.texts.specs.Decimal.{decimal, signedDecimal}
-use Rattle.texts.specs.Text.{lineOf}
-use Rattle.texts.proofs.Spelling.{below-zero, not-below}
+use Rattle.texts_rules.specs.Decimal.{decimal, signedDecimal}
+use Rattle.texts_rules.specs.Text.{lineOf}
+use Rattle.texts_rules.proofs.Spelling.{below-zero, not-below}
 use Rattle.texts.proofs.building.with_signed.Statement.{statement}
 use Rattle.texts.proofs.building.with_signed.Tie as tie
 

@@ -6,8 +6,8 @@ use Prim.Native.Nat.{_+_}
 use denote.Ref.{now}
 use lib.ListN.{length}
 use borrow.Author.Needs.{needs}
-use Rattle.texts.specs.declared.Line.{Line}
-use Rattle.texts.proofs.Growing.{grown}
+use Rattle.texts_rules.specs.declared.Line.{Line}
+use Rattle.texts_rules.proofs.Growing.{grown}
 use Rattle.texts.proofs.building.with_word.Statement.{statement}
 use Rattle.texts.proofs.building.with_word.Tie as tie
 

@@ -4,7 +4,7 @@ use mathlib.Core.Path.{refl}
 use Prim.Native.Nat.{_-_}
 use borrow.Author.Needs.{needs}
 use Rattle.bits.proofs.Filling.{Filled, filled-none, filled-more, filled-all}
-use Rattle.texts.specs.Text.{hexAt}
+use Rattle.texts_rules.specs.Text.{hexAt}
 use Rattle.texts.proofs.digits.hex_of.Statement.{statement}
 use Rattle.texts.proofs.digits.hex_of.Tie as tie
 

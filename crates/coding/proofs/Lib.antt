@@ -1,2 +1,0 @@
-pub mod CrcLaws
-pub mod ScrambleLaws

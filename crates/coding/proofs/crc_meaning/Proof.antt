@@ -1,9 +1,0 @@
-use Rattle.coding.proofs.CrcLaws.{crc-remainder, crc-only}
-use Rattle.coding.proofs.crc_meaning.Statement.{statement}
-use Rattle.coding.proofs.crc_meaning.Tie as tie
-
-returns : tie.Need-returns
-returns c = record { remainder = crc-remainder; only = crc-only }
-
-pub crc-meaning-spec : {M : Type 1} → statement M
-crc-meaning-spec = tie.close (tie.spec returns)

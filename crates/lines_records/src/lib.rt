@@ -1,0 +1,124 @@
+// The lines of a journal's records, as `show` prints them, and of the gap before a frame.
+// What is shown is defined in crate `lines_rules`, whose types are named here too.
+ghost use mathlib.Core.Path.{_≡_};
+ghost use mathlib.Core.List.{List, _++_};
+ghost use Prim.Native.Nat.{ℕ, _+_, _≤_};
+ghost use Rattle.texts_rules.specs.Text.{lineOf};
+ghost use Rattle.journal_rules.specs.Gaps.{gapTo};
+ghost use Rattle.lines_rules.specs.Entries.{outcomeWords, figuresText, shownBody, shownAs, shownRecord, betweenLine};
+use bits::Refusal;
+use bits::number_of;
+use bits::wide;
+use journal::Between;
+use journal::Body;
+use journal::Earlier;
+use journal::Entry;
+use journal::Figures;
+use journal::Outcome;
+use journal::Reading;
+use lines::frame_words;
+use lines::gap_line;
+use lines::refused_line;
+pub use lines_rules::Shown;
+pub use lines_rules::What;
+use texts::Line;
+use texts::empty;
+use texts::with_number;
+use texts::with_word;
+
+fn accepted_words(line: Line, corrected: u8) -> Line
+    requires { ⌜ line .size ≤ 90 ⌝ }
+    ensures size { λ r. ⌜ r .size ≤ line .size + 30 ⌝ }
+    ensures text { λ r. ⌜ ((t : List ℕ) → line ≡ lineOf t → r ≡ lineOf (t ++ outcomeWords Outcome.Accepted corrected)) ⌝ }
+{
+    let word = with_word(line, b" accepted");
+    with_number(word, wide(corrected) as u64)
+}
+
+// The line with a frame's outcome behind it.
+fn outcome_words(line: Line, outcome: Outcome, corrected: u8) -> Line
+    requires { ⌜ line .size ≤ 90 ⌝ }
+    ensures size { λ r. ⌜ r .size ≤ line .size + 30 ⌝ }
+    ensures text { λ r. ⌜ ((t : List ℕ) → line ≡ lineOf t → r ≡ lineOf (t ++ outcomeWords outcome corrected)) ⌝ }
+{
+    match outcome {
+        Outcome::Untried => with_word(line, b" untried"),
+        Outcome::Accepted => accepted_words(line, corrected),
+        Outcome::Refused => with_word(line, b" refused"),
+    }
+}
+
+fn figures_line(offset: u64, f: Figures) -> Line
+    ensures { λ r. ⌜ r ≡ lineOf (figuresText offset f) ⌝ }
+{
+    let words = frame_words(offset, f.matched, wide(f.errors) as u64);
+    let outcome = f.outcome;
+    let with_outcome = outcome_words(words, outcome, f.corrected);
+    with_word(with_outcome, b"\n")
+}
+
+fn shown_body(offset: u64, body: Body) -> Shown
+    ensures { λ r. ⌜ r ≡ shownBody offset body ⌝ }
+{
+    match body {
+        Body::Frame(f) => {
+            let line = figures_line(offset, f);
+            Shown {
+                what: What::AFrame,
+                line,
+            }
+        }
+        Body::Gap(n) => {
+            let line = gap_line(offset, n);
+            Shown {
+                what: What::AGap,
+                line,
+            }
+        }
+    }
+}
+
+// The line of a refusal, the record being the one of that number.
+fn refused_record(refusal: Refusal, number: u64) -> Shown
+    ensures { λ r. ⌜ r ≡ shownAs (Reading.Refused refusal) number ⌝ }
+{
+    let line = refused_line(wide(number_of(refusal)) as u64, number);
+    Shown {
+        what: What::NoRecord,
+        line,
+    }
+}
+
+// Makes the line of a record, or of its refusal, the record being the one of that number. What is there of a record that the input ends within is refused by
+// its length, by 12.
+pub fn show_record(record: &[u8], number: u64) -> Shown
+    ensures { λ r. ⌜ r ≡ shownRecord (now («record» .entry)) number ⌝ }
+{
+    let reading = journal::read(record);
+    match reading {
+        Reading::Holds(entry) => {
+            let body = entry.body;
+            shown_body(entry.offset, body)
+        }
+        Reading::Refused(refusal) => refused_record(refusal, number),
+    }
+}
+
+fn entry_line(entry: Entry) -> Line
+    ensures { λ r. ⌜ r ≡ shownBody (entry .offset) (entry .body) .line ⌝ }
+{
+    let body = entry.body;
+    let shown = shown_body(entry.offset, body);
+    shown.line
+}
+
+// The line of the gap before a frame at the offset `next`, or an empty line.
+pub fn gap_before(earlier: Earlier, next: u64) -> Line
+    ensures { λ r. ⌜ r ≡ betweenLine (gapTo earlier next) ⌝ }
+{
+    let between = journal::gap_to(earlier, next);
+    match between {
+        Between::NoGap => empty(),
+        Between::Gap(entry) => entry_line(entry),
+    }
+}

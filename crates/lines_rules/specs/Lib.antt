@@ -1,0 +1,4 @@
+pub mod Text
+pub mod Entries
+pub mod Slips
+pub mod Statements

@@ -1,4 +1,0 @@
-mod Reading
-mod Steps
-mod Telling
-mod Wholes

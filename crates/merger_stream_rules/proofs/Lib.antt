@@ -1,0 +1,4 @@
+pub mod Rows
+pub mod Grid
+pub mod Promises
+pub mod Streams

@@ -1,5 +1,0 @@
-pub mod Shelving
-pub mod Takings
-pub mod Idling
-pub mod Feeding
-pub mod Walking

@@ -1,0 +1,144 @@
+// The shelf: a slot for each frame that waits in the merger, and one for the frame that is handed in. At most 16 positions wait, and each holds at most one frame
+// of each stream: so 33 slots are enough, and the memory is constant. A slot's place is the number that the merger keeps for its frame.
+ghost use mathlib.Core.Path.{_≡_};
+ghost use mathlib.Core.Bool.{true, false};
+ghost use Prim.Native.Nat.{_<_};
+ghost use lib.ListN.{length, getD, set, replicate};
+ghost use Rattle.merging_shelf.specs.Slots.{shelfSlots, used, IsSlot, cleared, countFree, countFreed, envelopeIn, putIn};
+use frame_records::Tried;
+use merger_rules::Free;
+use merger_rules::Freed;
+
+// Which slots are taken, what the decoder said of their frames, and their envelopes, 48 bytes a slot.
+pub struct Shelf {
+    pub taken: [bool; 33],
+    pub tried: [Tried; 33],
+    pub envelopes: [u8; 1584],
+}
+
+// A shelf on which nothing lies.
+pub fn empty() -> Shelf
+    ensures { λ r. ⌜ r .taken ≡ replicate shelfSlots false ⌝ }
+{
+    let none = Tried {
+        outcome: journal_rules::Outcome::Untried,
+        corrected: 0,
+    };
+    Shelf {
+        taken: [false; 33],
+        tried: [none; 33],
+        envelopes: [0u8; 1584],
+    }
+}
+
+// Finds the first free slot. There is one: the caller shows that not all are taken.
+pub fn free_slot(taken: [bool; 33]) -> usize
+    requires { ⌜ used taken < shelfSlots ⌝ }
+    ensures { λ r. ⌜ (r < shelfSlots) × (getD taken r false ≡ false) ⌝ }
+{
+    let mut k = 0;
+    while k < 33 {
+        if !taken[k] {
+            return k;
+        }
+        k += 1;
+    }
+    k
+}
+
+// Writes an envelope over the one of a slot.
+fn with_envelope(envelopes: [u8; 1584], slot: usize, envelope: &[u8]) -> [u8; 1584]
+    requires { ⌜ slot < shelfSlots ⌝ ∗ ⌜ length (now envelope) ≡ 48 ⌝ }
+    ensures { λ r. ⌜ r ≡ putIn slot (now (envelope .entry)) envelopes ⌝ }
+{
+    let mut all = envelopes;
+    let from = 48 * slot;
+    let to = from + 48;
+    bits::copy(envelope, &mut all[from..to]);
+    all
+}
+
+// Lays a frame into a slot.
+pub fn with_frame(shelf: Shelf, slot: usize, tried: Tried, envelope: &[u8]) -> Shelf
+    requires { ⌜ slot < shelfSlots ⌝ ∗ ⌜ length (now envelope) ≡ 48 ⌝ }
+    ensures taken { λ r. ⌜ r .taken ≡ set (shelf .taken) slot true ⌝ }
+    ensures tried { λ r. ⌜ r .tried ≡ set (shelf .tried) slot «tried» ⌝ }
+    ensures envelopes { λ r. ⌜ r .envelopes ≡ putIn slot (now (envelope .entry)) (shelf .envelopes) ⌝ }
+{
+    let mut taken = shelf.taken;
+    taken[slot] = true;
+    let mut all = shelf.tried;
+    all[slot] = tried;
+    let before = shelf.envelopes;
+    let envelopes = with_envelope(before, slot, envelope);
+    Shelf {
+        taken,
+        tried: all,
+        envelopes,
+    }
+}
+
+// The envelope in a slot.
+pub fn envelope_in(envelopes: [u8; 1584], slot: usize) -> [u8; 48]
+    requires { ⌜ slot < shelfSlots ⌝ }
+    ensures { λ r. ⌜ r ≡ envelopeIn slot envelopes ⌝ }
+{
+    let mut envelope = [0u8; 48];
+    let from = 48 * slot;
+    let to = from + 48;
+    bits::copy(&envelopes[from..to], &mut envelope);
+    envelope
+}
+
+// Frees the slot whose number the merger gave back.
+fn freed_slot(taken: [bool; 33], free: Free) -> [bool; 33]
+    requires { ⌜ IsSlot free ⌝ }
+    ensures { λ r. ⌜ r ≡ cleared free taken ⌝ }
+{
+    match free {
+        Free::Nothing => taken,
+        Free::Number(slot) => {
+            let mut next = taken;
+            next[slot as usize] = false;
+            next
+        }
+    }
+}
+
+// Frees the slots whose numbers the merger gave back.
+pub fn without(shelf: Shelf, freed: Freed) -> Shelf
+    requires { ⌜ IsSlot (freed .primary) ⌝ ∗ ⌜ IsSlot (freed .alternate) ⌝ }
+    ensures { λ r. ⌜ r .taken ≡ cleared (freed .alternate) (cleared (freed .primary) (shelf .taken)) ⌝ }
+{
+    let first = freed.primary;
+    let second = freed.alternate;
+    let all = shelf.taken;
+    let one = freed_slot(all, first);
+    let taken = freed_slot(one, second);
+    let tried = shelf.tried;
+    let envelopes = shelf.envelopes;
+    Shelf {
+        taken,
+        tried,
+        envelopes,
+    }
+}
+
+// How many numbers a place gave back.
+fn how_many_free(free: Free) -> u64
+    ensures { λ r. ⌜ r ≡ countFree free ⌝ }
+{
+    match free {
+        Free::Nothing => 0,
+        Free::Number(_) => 1,
+    }
+}
+
+// How many numbers a position gave back.
+pub fn how_many(freed: Freed) -> u64
+    ensures { λ r. ⌜ r ≡ countFreed freed ⌝ }
+{
+    let first = freed.primary;
+    let second = freed.alternate;
+    how_many_free(first) + how_many_free(second)
+}

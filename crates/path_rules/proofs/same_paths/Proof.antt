@@ -1,9 +1,0 @@
-use Rattle.path_rules.proofs.Agree.{same-paths}
-use Rattle.path_rules.proofs.same_paths.Statement.{statement}
-use Rattle.path_rules.proofs.same_paths.Tie as tie
-
-returns : tie.Need-returns
-returns c = same-paths
-
-pub same-paths-spec : {M : Type 1} → statement M
-same-paths-spec = tie.close (tie.spec returns)

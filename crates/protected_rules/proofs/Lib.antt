@@ -1,0 +1,9 @@
+pub mod Admission
+pub mod CodedBits
+pub mod Examples
+pub mod InputBits
+pub mod Remainder
+pub mod Taps
+pub mod Turns
+pub mod WordBits
+pub mod WordMeaning

@@ -1,0 +1,258 @@
+// Packed dibits from an open file, highest dibit first in a byte, through the synchroniser: its frames, one after the other.
+// A reception goes from call to call by value. `receive` gives a frame, or none yet; `has_ended` says that there will be none.
+ghost use mathlib.Core.Path.{_≡_};
+ghost use mathlib.Core.Bool.{true};
+ghost use Prim.Native.Nat.{_+_, _*_, _≤_, _<_};
+ghost use lib.ListN.{length, take, drop};
+ghost use Rattle.sync.specs.View.{view};
+ghost use Rattle.reception.specs.Receptions.{SoundReception, NextOf, Told, gives};
+use journal_rules::Earlier;
+use sync::Push;
+use sync::Synchroniser;
+use sync_rules::Head;
+use sync_rules::no_moves;
+
+// The file, whether it may hold more, and the piece that was read last, with how many of its dibits are taken.
+// The synchroniser, the frames of its last push, and how many of them were given. How many frames were given in all, and the last of them.
+pub struct Reception {
+    pub fd: i32,
+    pub more: bool,
+    pub size: usize,
+    pub taken: usize,
+    pub piece: [u8; 4096],
+    pub sync: Synchroniser,
+    pub count: usize,
+    pub given: usize,
+    pub heads: [Head; 3],
+    pub room: [u8; 1296],
+    pub frames: u64,
+    pub earlier: Earlier,
+}
+
+// What is left of a reception when it ends: how many frames were given, whether the input was taken whole, and the synchroniser.
+pub struct Heard {
+    pub frames: u64,
+    pub whole: bool,
+    pub sync: Synchroniser,
+}
+
+pub enum Next {
+    Frame(Head),
+    NoFrame,
+}
+
+// What comes next, its envelope (zeros where there is no frame), and the frame before it.
+pub struct Received {
+    pub next: Next,
+    pub envelope: [u8; 48],
+    pub earlier: Earlier,
+    pub reception: Reception,
+}
+
+// Nothing read yet.
+pub fn opened(fd: i32) -> Reception
+    ensures ready { λ r. ⌜ SoundReception r ⌝ }
+    ensures given { λ r. ⌜ r .frames ≡ 0 ⌝ }
+{
+    let moves = no_moves();
+    let none = Head {
+        offset: 0,
+        matched: false,
+        errors: 0,
+        moves,
+    };
+    let sync = Synchroniser::new();
+    Reception {
+        fd,
+        more: true,
+        size: 0,
+        taken: 0,
+        piece: [0u8; 4096],
+        sync,
+        count: 0,
+        given: 0,
+        heads: [none; 3],
+        room: [0u8; 1296],
+        frames: 0,
+        earlier: Earlier::Nothing,
+    }
+}
+
+// The envelope of frame k of a push.
+fn envelope_of(room: [u8; 1296], k: usize) -> [u8; 48]
+    requires { ⌜ k < 3 ⌝ }
+    ensures { λ r. ⌜ r ≡ take 48 (drop (432 * k) room) ⌝ }
+{
+    let mut envelope = [0u8; 48];
+    for i in 0..48usize {
+        envelope[i] = room[432 * k + i];
+    }
+    envelope
+}
+
+// The next frame of the last push.
+fn give(r: Reception) -> Received
+    requires { ⌜ SoundReception r ⌝ ∗ ⌜ r .given < r .count ⌝ }
+    ensures ready { λ s. ⌜ SoundReception (s .reception) ⌝ }
+    ensures given { λ s. ⌜ s .reception .frames ≡ r .frames + gives (s .next) ⌝ }
+    ensures frame { λ s. ⌜ NextOf (view (s .reception .sync)) (r .frames) (s .next) (s .envelope) ⌝ }
+{
+    let k = r.given;
+    let heads = r.heads;
+    let head = heads[k];
+    let room = r.room;
+    let envelope = envelope_of(room, k);
+    let earlier = r.earlier;
+    let piece = r.piece;
+    let sync = r.sync;
+    let reception = Reception {
+        fd: r.fd,
+        more: r.more,
+        size: r.size,
+        taken: r.taken,
+        piece,
+        sync,
+        count: r.count,
+        given: k + 1,
+        heads,
+        room,
+        frames: r.frames + 1,
+        earlier: Earlier::At(head.offset),
+    };
+    Received {
+        next: Next::Frame(head),
+        envelope,
+        earlier,
+        reception,
+    }
+}
+
+// A refused push is the last.
+fn goes_on(answer: Push) -> bool {
+    match answer {
+        Push::Taken => true,
+        Push::Refused(refusal) => {
+            lines::print_error(lines::refusal_line(refusal));
+            false
+        }
+    }
+}
+
+// The next dibits of the piece, up to a push that sends frames.
+fn feed(r: Reception) -> Reception
+    requires { ⌜ SoundReception r ⌝ ∗ ⌜ r .count ≤ r .given ⌝ }
+    ensures ready { λ s. ⌜ SoundReception s ⌝ }
+    ensures given { λ s. ⌜ s .frames ≡ r .frames ⌝ }
+{
+    let piece = r.piece;
+    let size = r.size;
+    let taken = r.taken;
+    let s = r.sync;
+    let mut room = [0u8; 1296];
+    sync_call_rules::calls_follow_the_rules();
+    sync_call_rules::feed_is_pushes();
+    let fed = s.feed_packed(&piece[..size], taken, &mut room);
+    let pushed = fed.pushed;
+    let heads = pushed.heads;
+    let sync = pushed.next;
+    let answer = pushed.answer;
+    let more = goes_on(answer);
+    let earlier = r.earlier;
+    Reception {
+        fd: r.fd,
+        more,
+        size,
+        taken: taken + fed.used,
+        piece,
+        sync,
+        count: pushed.count,
+        given: 0,
+        heads,
+        room,
+        frames: r.frames,
+        earlier,
+    }
+}
+
+// The next piece of the file.
+fn refill(r: Reception) -> Reception
+    requires { ⌜ SoundReception r ⌝ ∗ ⌜ r .count ≤ r .given ⌝ }
+    ensures ready { λ s. ⌜ SoundReception s ⌝ }
+    ensures given { λ s. ⌜ s .frames ≡ r .frames ⌝ }
+{
+    let mut piece = io::buffer();
+    let size = io::read_full(r.fd, &mut piece);
+    let sync = r.sync;
+    let heads = r.heads;
+    let room = r.room;
+    let earlier = r.earlier;
+    Reception {
+        fd: r.fd,
+        more: size > 0,
+        size,
+        taken: 0,
+        piece,
+        sync,
+        count: 0,
+        given: 0,
+        heads,
+        room,
+        frames: r.frames,
+        earlier,
+    }
+}
+
+fn without_frame(r: Reception) -> Received
+    requires { ⌜ SoundReception r ⌝ }
+    ensures ready { λ s. ⌜ SoundReception (s .reception) ⌝ }
+    ensures given { λ s. ⌜ s .reception .frames ≡ r .frames + gives (s .next) ⌝ }
+    ensures frame { λ s. ⌜ NextOf (view (s .reception .sync)) (r .frames) (s .next) (s .envelope) ⌝ }
+{
+    let earlier = r.earlier;
+    Received {
+        next: Next::NoFrame,
+        envelope: [0u8; 48],
+        earlier,
+        reception: r,
+    }
+}
+
+// A frame that waits to be given; or else the file is read on, and there is none yet.
+pub fn receive(r: Reception) -> Received
+    requires { ⌜ SoundReception r ⌝ }
+    ensures ready { λ s. ⌜ SoundReception (s .reception) ⌝ }
+    ensures given { λ s. ⌜ s .reception .frames ≡ r .frames + gives (s .next) ⌝ }
+    ensures frame { λ s. ⌜ NextOf (view (s .reception .sync)) (r .frames) (s .next) (s .envelope) ⌝ }
+{
+    if r.given < r.count {
+        return give(r);
+    }
+    if r.taken < 4 * r.size {
+        return without_frame(feed(r));
+    }
+    without_frame(refill(r))
+}
+
+// Whether nothing more comes: the file has ended or a push was refused, and no frame waits.
+pub fn has_ended(more: bool, given: usize, count: usize) -> bool
+    ensures { λ r. ⌜ (r ≡ true → count ≤ given) ⌝ }
+{
+    if more {
+        return false;
+    }
+    count <= given
+}
+
+// What is left when it ends.
+pub fn closed(r: Reception) -> Heard
+    requires { ⌜ SoundReception r ⌝ }
+    ensures told { λ h. ⌜ Told h ⌝ }
+    ensures frames { λ h. ⌜ h .frames ≡ r .frames ⌝ }
+{
+    let sync = r.sync;
+    Heard {
+        frames: r.frames,
+        whole: has_ended(r.more, r.given, r.count),
+        sync,
+    }
+}

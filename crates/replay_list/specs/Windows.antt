@@ -1,0 +1,8 @@
+-- Where a case lies in the window.
+-- Assumes nothing.
+use Prim.Native.Nat.{ℕ, _≤_}
+use Rattle.replay_list.specs.declared.list.Case.{Case}
+
+-- the case's parts end where the bytes read do, and these lie in a window of n bytes
+abbrev pub Within : ℕ → Case → Type 0
+Within n c = (c .input ≤ c .middle) × (c .middle ≤ c .end) × (c .expected ≤ c .next) × (c .next ≤ c .end) × (c .end ≤ n)

@@ -1,0 +1,80 @@
+// What a case of docs/REPLAY.md answers, of the kinds 13, 14 and 18 to 20: the synchroniser's pushes and feeds.
+// The answer's bytes go into lent memory; the synchroniser goes in and comes back by value.
+ghost use Rattle.sync.specs.View.{ValidSynchroniser, view};
+ghost use Rattle.replay_sync.specs.Streams.{ToldBy, fedCase, fedPackedCase, fedSoftCase, pushCase, pushedCase, softPush};
+use replay_bytes::at;
+use replay_bytes::no_case;
+use replay_bytes::pair;
+pub use replay_pushes::Synchronised;
+use replay_pushes::put_fed;
+use replay_pushes::put_pushed;
+use sync::Synchroniser;
+
+// Kind 13: a dibit, and perhaps the room's size.
+pub fn pushed(s: Synchroniser, input: &[u8], room: &mut [u8], out: &mut [u8]) -> Synchronised
+    requires { ⌜ ValidSynchroniser s ⌝ }
+    ensures { λ r. ⌜ ToldBy s (pushedCase (now (room .entry)) (now (input .entry)) (view s)) (now (room .exit)) (now (out .entry)) (now (out .exit)) r ⌝ }
+{
+    if input.len() == 3 {
+        let size = pair(at(input, 1), at(input, 2));
+        if room.len() < size {
+            return Synchronised {
+                size: no_case(),
+                sync: s,
+            };
+        }
+        let p = s.push(at(input, 0), &mut room[0..size]);
+        return put_pushed(out, 0, p, &*room);
+    }
+    let p = s.push(at(input, 0), &mut *room);
+    put_pushed(out, 0, p, &*room)
+}
+
+// Kind 14: a dibit and two reliabilities.
+pub fn pushed_soft(s: Synchroniser, input: &[u8], room: &mut [u8], out: &mut [u8]) -> Synchronised
+    requires { ⌜ ValidSynchroniser s ⌝ }
+    ensures { λ r. ⌜ ToldBy s (pushCase (now (room .entry)) (softPush (now (input .entry))) (view s)) (now (room .exit)) (now (out .entry)) (now (out .exit)) r ⌝ }
+{
+    let p = s.push_soft(at(input, 0), at(input, 1), at(input, 2), &mut *room);
+    put_pushed(out, 0, p, &*room)
+}
+
+// Kind 18: dibits.
+pub fn fed(s: Synchroniser, input: &[u8], room: &mut [u8], out: &mut [u8]) -> Synchronised
+    requires { ⌜ ValidSynchroniser s ⌝ }
+    ensures { λ r. ⌜ ToldBy s (fedCase (now (room .entry)) (now (input .entry)) (view s)) (now (room .exit)) (now (out .entry)) (now (out .exit)) r ⌝ }
+{
+    let f = s.feed(input, &mut *room);
+    put_fed(out, f, &*room)
+}
+
+// Kind 19: how many dibits, the dibits, and their reliabilities.
+pub fn fed_soft(s: Synchroniser, input: &[u8], room: &mut [u8], out: &mut [u8]) -> Synchronised
+    requires { ⌜ ValidSynchroniser s ⌝ }
+    ensures { λ r. ⌜ ToldBy s (fedSoftCase (now (room .entry)) (now (input .entry)) (view s)) (now (room .exit)) (now (out .entry)) (now (out .exit)) r ⌝ }
+{
+    let middle = 2 + pair(at(input, 0), at(input, 1));
+    if input.len() < middle {
+        return Synchronised {
+            size: no_case(),
+            sync: s,
+        };
+    }
+    let f = s.feed_soft(&input[2..middle], &input[middle..], &mut *room);
+    put_fed(out, f, &*room)
+}
+
+// Kind 20: the first dibit's number, and packed dibits.
+pub fn fed_packed(s: Synchroniser, input: &[u8], room: &mut [u8], out: &mut [u8]) -> Synchronised
+    requires { ⌜ ValidSynchroniser s ⌝ }
+    ensures { λ r. ⌜ ToldBy s (fedPackedCase (now (room .entry)) (now (input .entry)) (view s)) (now (room .exit)) (now (out .entry)) (now (out .exit)) r ⌝ }
+{
+    if input.len() < 2 {
+        return Synchronised {
+            size: no_case(),
+            sync: s,
+        };
+    }
+    let f = s.feed_packed(&input[2..], pair(at(input, 0), at(input, 1)), &mut *room);
+    put_fed(out, f, &*room)
+}

@@ -1,0 +1,116 @@
+// stored_cases CASE..
+// Runs the programs on the stored cases of the gate.
+// A case is a program, its table if it has one, and its files; a line with these words stands before what the program writes, what it says of its table included.
+// `record` is without a table, `record-with` has one.
+
+ghost use Prim.Native.Nat.{_<_, _≤_};
+
+// A word of the line, and the file of that name, open.
+fn opened(i: usize) -> i32 {
+    let mut name = [0u8; 64];
+    let n = os::arg(i, &mut name);
+    io::write_all(1, b" ");
+    io::write_all(1, &name[..n]);
+    os::open_read(&name[..n])
+}
+
+// listing FILE, slips FILE, record FILE, show FILE: the second letters tell them apart.
+fn run_on_file(letter: u8, i: usize) -> usize
+    requires { ⌜ i < 200 ⌝ }
+    ensures { λ r. ⌜ r ≤ 4 ⌝ }
+{
+    let fd = opened(i);
+    io::write_all(1, b"\n");
+    if letter == b'i' {
+        tasks::list(fd);
+    }
+    if letter == b'l' {
+        tasks::slips(fd);
+    }
+    if letter == b'e' {
+        tasks::record(fd);
+    }
+    if letter == b'h' {
+        tasks::show(fd);
+    }
+    libc::close(fd);
+    2
+}
+
+// record-with TABLE FILE, speech TABLE FILE.
+fn run_with_table(letter: u8, i: usize) -> usize
+    requires { ⌜ i < 200 ⌝ }
+    ensures { λ r. ⌜ r ≤ 4 ⌝ }
+{
+    let named = opened(i);
+    libc::close(named);
+    let fd = opened(i + 1);
+    io::write_all(1, b"\n");
+    let mut table = [0u8; 188];
+    if table_file::from_argument(i, 1, &mut table) {
+        if letter == b'r' {
+            tasks::record_decoded(fd, &table);
+        } else {
+            tasks::speak(fd, &table);
+        }
+    }
+    libc::close(fd);
+    3
+}
+
+// merge TABLE PRIMARY ALTERNATE.
+fn run_merge(i: usize) -> usize
+    requires { ⌜ i < 200 ⌝ }
+    ensures { λ r. ⌜ r ≤ 4 ⌝ }
+{
+    let named = opened(i);
+    libc::close(named);
+    let primary = opened(i + 1);
+    let alternate = opened(i + 2);
+    io::write_all(1, b"\n");
+    let mut table = [0u8; 188];
+    if table_file::from_argument(i, 1, &mut table) {
+        merging::merge(&table, primary, alternate);
+    }
+    libc::close(primary);
+    libc::close(alternate);
+    4
+}
+
+// The case at argument i, by its program's letters; how many arguments it has, none where there is no case.
+fn run_one(i: usize) -> usize
+    requires { ⌜ i < 199 ⌝ }
+    ensures { λ r. ⌜ r ≤ 4 ⌝ }
+{
+    let mut program = [0u8; 16];
+    let n = os::arg(i, &mut program);
+    if n == 0 {
+        return 0;
+    }
+    io::write_all(1, b"== ");
+    io::write_all(1, &program[..n]);
+    let first = program[0];
+    let second = program[1];
+    if first == b'm' {
+        return run_merge(i + 1);
+    }
+    if second == b'p' {
+        return run_with_table(first, i + 1);
+    }
+    if program[6] == b'-' {
+        return run_with_table(first, i + 1);
+    }
+    run_on_file(second, i + 1)
+}
+
+fn main() {
+    let mut i = 1;
+    while i < 199 {
+        let used = run_one(i);
+        if used == 0 {
+            i = 199;
+        } else {
+            i += used;
+        }
+    }
+}

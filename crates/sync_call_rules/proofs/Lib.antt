@@ -1,0 +1,6 @@
+pub mod Feeding
+pub mod Slots
+pub mod Histories
+pub mod Ends
+pub mod Moved
+pub mod Wholes

@@ -1,0 +1,271 @@
+// Frames: when one is ready, its front and segments, and up to three of them a push.
+ghost use mathlib.Core.Path.{_≡_};
+ghost use mathlib.Core.Bool.{false};
+ghost use Prim.Native.Nat.{_+_, _*_, _<_, _≤_};
+ghost use lib.ListN.{length};
+ghost use Rattle.bits.specs.Bit.{Bits};
+ghost use Rattle.sync_rings.specs.Ring.{ring};
+ghost use Rattle.sync_numbers.specs.View.{Sound, Low, Steady, viewOf};
+ghost use Rattle.sync_frames.specs.Frames.{Fronted, Sendable, SentBy, Ready, Looked, DrainedBy, drainedOf, nothingOf};
+ghost use Rattle.sync_rules.specs.Matching.{inPlace};
+ghost use Rattle.sync_rules.specs.Moves.{Move, movesAt};
+ghost use Rattle.sync_rules.specs.Frames.{sendAt, send};
+ghost use Rattle.sync_rules.specs.Pushes.{drain};
+use sync_numbers::Numbers;
+use sync_numbers::dropped;
+use sync_numbers::moves_of;
+use sync_numbers::restored;
+use sync_numbers::sent;
+use sync_numbers::shifted;
+use sync_rings::in_place;
+use sync_rings::lay_bits;
+use sync_rings::lay_soft;
+use sync_rings::marker;
+use sync_rings::matches_at;
+use sync_rings::segment_at;
+use sync_rings::two_of;
+use sync_rules::Head;
+use sync_rules::Moves;
+
+// What is said of a frame, and the numbers that it leaves.
+pub struct Framed {
+    pub numbers: Numbers,
+    pub head: Head,
+}
+
+// Whether a frame is ready, and whether it is in place.
+pub struct Readiness {
+    pub ready: bool,
+    pub placed: bool,
+}
+
+// The frames that went out, and the numbers that they leave.
+pub struct Drained {
+    pub numbers: Numbers,
+    pub count: usize,
+    pub heads: [Head; 3],
+}
+
+// Follows the front of a frame that is not in place: it stays, goes a symbol later, or a symbol back.
+fn front(bits: &[u8; 1155], c: Numbers) -> Numbers
+    requires { ⌜ Bits (now bits) ⌝ ∗ ⌜ Sound c ⌝ ∗ ⌜ 392 ≤ c .pending ⌝ ∗ ⌜ c .later + c .earlier ≤ 3 * c .frames ⌝ ∗ ⌜ Low c ⌝ }
+    ensures { λ r. ⌜ Fronted (now (bits .entry)) c r ⌝ }
+{
+    let base = c.first + c.restorable;
+    let a = matches_at(bits, base, 0);
+    if a {
+        return c;
+    }
+    let b = matches_at(bits, base + 2, 0);
+    if b {
+        let mut d = dropped(c, 2);
+        d.later = c.later + 1;
+        return d;
+    }
+    if c.restorable == 2 {
+        let first = c.first;
+        let e = matches_at(bits, first, 0);
+        if e {
+            let mut g = restored(c);
+            g.earlier = c.earlier + 1;
+            return g;
+        }
+        return c;
+    }
+    c
+}
+
+// Sends the frame at the front, its second and third segment p and q behind it, with these moves: writes it into the room and counts it.
+fn frame_at<'a>(
+    bits: &'a [u8; 1155],
+    reliabilities: &'a [u8; 1155],
+    c: Numbers,
+    room: &mut [u8],
+    to: usize,
+    p: usize,
+    q: usize,
+    moves: Moves,
+) -> Framed
+    requires { ⌜ Bits (now bits) ⌝ ∗ ⌜ Sendable c p q ⌝ ∗ ⌜ to + 432 ≤ length (now room) ⌝ }
+    ensures { λ r. ⌜ ((v : Move) → moves ≡ movesAt v p q → SentBy (now (bits .entry)) (now (reliabilities .entry)) (now (room .entry)) (now (room .exit)) to (c .pending) (sendAt v (viewOf (now (bits .entry)) (now (reliabilities .entry)) c) p q) r) ⌝ }
+{
+    let base = c.first + c.restorable;
+    let x = marker(bits, base, 0);
+    let y = marker(bits, base + p, 1);
+    let z = marker(bits, base + q, 2);
+    let matched = two_of(x.matched, y.matched, z.matched);
+    lay_bits(&mut *room, to, bits, base, p, q);
+    lay_soft(&mut *room, to + 48, reliabilities, base, p, q, c.soft);
+    let numbers = sent(c, q, matched);
+    let head = Head {
+        offset: c.clock,
+        matched,
+        errors: x.errors + y.errors + z.errors,
+        moves,
+    };
+    Framed { numbers, head }
+}
+
+// Sends one frame, in place or not.
+fn frame<'a>(
+    bits: &'a [u8; 1155],
+    reliabilities: &'a [u8; 1155],
+    c: Numbers,
+    room: &mut [u8],
+    to: usize,
+    placed: bool,
+) -> Framed
+    requires { ⌜ Bits (now bits) ⌝ ∗ ⌜ Ready c placed ⌝ ∗ ⌜ placed ≡ inPlace (ring (now bits) (c .first + c .restorable) (c .pending)) 0 ⌝ ∗ ⌜ to + 432 ≤ length (now room) ⌝ }
+    ensures { λ r. ⌜ SentBy (now (bits .entry)) (now (reliabilities .entry)) (now (room .entry)) (now (room .exit)) to (c .pending + 2) (send (viewOf (now (bits .entry)) (now (reliabilities .entry)) c)) r ⌝ }
+{
+    if placed {
+        let moves = Moves {
+            front: 0,
+            second: 0,
+            third: 0,
+        };
+        return frame_at(bits, reliabilities, c, room, to, 128, 256, moves);
+    }
+    let d = front(bits, c);
+    let base = d.first + d.restorable;
+    let p = segment_at(bits, base, 128, 1);
+    let at = p + 128;
+    let q = segment_at(bits, base, at, 2);
+    let e = shifted(d, p, q);
+    let moves = moves_of(c, d, p, q);
+    frame_at(bits, reliabilities, e, room, to, p, q, moves)
+}
+
+// Tells whether a frame is ready, and whether it is in place.
+fn look(bits: &[u8; 1155], c: Numbers) -> Readiness
+    requires { ⌜ Bits (now bits) ⌝ ∗ ⌜ Steady c ⌝ }
+    ensures { λ r. ⌜ Looked (now (bits .entry)) c r ⌝ }
+{
+    if c.locked {
+        if c.pending < 384 {
+            return Readiness {
+                ready: false,
+                placed: false,
+            };
+        }
+        let base = c.first + c.restorable;
+        let placed = in_place(bits, base);
+        if placed {
+            return Readiness {
+                ready: true,
+                placed: true,
+            };
+        }
+        if c.pending < 392 {
+            return Readiness {
+                ready: false,
+                placed: false,
+            };
+        }
+        return Readiness {
+            ready: true,
+            placed: false,
+        };
+    }
+    Readiness {
+        ready: false,
+        placed: false,
+    }
+}
+
+// Hands back the frames with these heads, and the numbers that they leave.
+fn frames_out(numbers: Numbers, count: usize, heads: [Head; 3]) -> Drained
+    ensures { λ r. ⌜ r ≡ drainedOf numbers count heads ⌝ }
+{
+    Drained {
+        numbers,
+        count,
+        heads,
+    }
+}
+
+// Hands back no frame, and the numbers as they are.
+pub fn nothing(numbers: Numbers) -> Drained
+    ensures { λ r. ⌜ r ≡ nothingOf numbers ⌝ }
+{
+    let moves = Moves {
+        front: 0,
+        second: 0,
+        third: 0,
+    };
+    let none = Head {
+        offset: 0,
+        matched: false,
+        errors: 0,
+        moves,
+    };
+    Drained {
+        numbers,
+        count: 0,
+        heads: [none; 3],
+    }
+}
+
+// Sends up to three frames, once a frame's bits are pending.
+fn three<'a>(
+    bits: &'a [u8; 1155],
+    reliabilities: &'a [u8; 1155],
+    c: Numbers,
+    room: &mut [u8],
+) -> Drained
+    requires { ⌜ Bits (now bits) ⌝ ∗ ⌜ Steady c ⌝ ∗ ⌜ 1296 ≤ length (now room) ⌝ ∗ ⌜ (c .locked ≡ false → c .pending ≤ 1151) ⌝ }
+    ensures { λ r. ⌜ DrainedBy (now (bits .entry)) (now (reliabilities .entry)) (now (room .entry)) (now (room .exit)) 0 3 (drain 3 (viewOf (now (bits .entry)) (now (reliabilities .entry)) c)) (r .numbers) (r .count) (r .heads) ⌝ }
+{
+    let moves = Moves {
+        front: 0,
+        second: 0,
+        third: 0,
+    };
+    let none = Head {
+        offset: 0,
+        matched: false,
+        errors: 0,
+        moves,
+    };
+    let a = look(bits, c);
+    if a.ready {
+        let f = frame(bits, reliabilities, c, &mut *room, 0, a.placed);
+        let c1 = f.numbers;
+        let h1 = f.head;
+        let b = look(bits, c1);
+        if b.ready {
+            let g = frame(bits, reliabilities, c1, &mut *room, 432, b.placed);
+            let c2 = g.numbers;
+            let h2 = g.head;
+            let d = look(bits, c2);
+            if d.ready {
+                let h = frame(bits, reliabilities, c2, &mut *room, 864, d.placed);
+                let c3 = h.numbers;
+                let h3 = h.head;
+                return frames_out(c3, 3, [h1, h2, h3]);
+            }
+            return frames_out(c2, 2, [h1, h2, none]);
+        }
+        return frames_out(c1, 1, [h1, none, none]);
+    }
+    nothing(c)
+}
+
+// Sends up to three frames, while one is ready. Most pushes end before a frame could be.
+pub fn drain<'a>(
+    bits: &'a [u8; 1155],
+    reliabilities: &'a [u8; 1155],
+    c: Numbers,
+    room: &mut [u8],
+) -> Drained
+    requires { ⌜ Bits (now bits) ⌝ ∗ ⌜ Steady c ⌝ ∗ ⌜ 1296 ≤ length (now room) ⌝ ∗ ⌜ (c .locked ≡ false → c .pending ≤ 1151) ⌝ }
+    ensures { λ r. ⌜ DrainedBy (now (bits .entry)) (now (reliabilities .entry)) (now (room .entry)) (now (room .exit)) 0 3 (drain 3 (viewOf (now (bits .entry)) (now (reliabilities .entry)) c)) (r .numbers) (r .count) (r .heads) ⌝ }
+{
+    if c.locked {
+        if 384 <= c.pending {
+            return three(bits, reliabilities, c, room);
+        }
+        return nothing(c);
+    }
+    nothing(c)
+}

@@ -1,0 +1,3 @@
+pub mod Pendings
+pub mod Sents
+pub mod Moved

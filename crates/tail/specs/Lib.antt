@@ -1,3 +1,0 @@
-pub mod Repair
-pub mod Calls
-pub mod Statements

@@ -1,0 +1,102 @@
+// The bytes to add at the marked places: a linear system with a power of each place's node in each row and a syndrome on the right.
+ghost use mathlib.Core.Path.{_≡_};
+ghost use Prim.Native.Nat.{_<_, _≤_};
+ghost use lib.ListN.{length, take};
+ghost use Rattle.bits.specs.Bit.{Bytes, tab};
+ghost use Rattle.field.specs.Lent.{Powers, Logs};
+ghost use Rattle.tail_rules.specs.Code.{syndrome};
+ghost use Rattle.tail_rules.specs.Steps.{exponentsOf, addedAt, RowOf, SystemOf, Corrected};
+use tail_solving::solve;
+
+// Up to six exponents, and how many.
+struct Places {
+    at: [u8; 6],
+    count: usize,
+}
+
+// The exponents of the marked places.
+fn exponents(v: [u8; 14]) -> Places
+    requires { ⌜ length (exponentsOf v) ≤ 6 ⌝ }
+    ensures { λ r. ⌜ (take (r .count) (r .at) ≡ exponentsOf v) × (r .count ≡ length (exponentsOf v)) × (length (r .at) ≡ 6) ⌝ }
+{
+    let mut at = [0u8; 6];
+    let mut count: usize = 0;
+    let mut i: usize = 0;
+    while i < 14 {
+        if v[i] == 0 {
+            at[count] = (13 - i) as u8;
+            count += 1;
+        }
+        i += 1;
+    }
+    Places {
+        at: at,
+        count: count,
+    }
+}
+
+// Row r: the r-th power of each place's node, and the syndrome s on the right.
+fn row(powers: &field::PowerTable, at: [u8; 6], count: usize, r: usize, s: u8) -> [u8; 7]
+    requires { ⌜ Powers (now powers) ⌝ ∗ ⌜ count ≤ 6 ⌝ ∗ ⌜ r < 6 ⌝ }
+    ensures { λ o. ⌜ RowOf at count r s o ⌝ }
+{
+    let mut out = [0u8; 7];
+    let mut c: usize = 0;
+    while c < count {
+        out[c] = field::power_by(powers, r * bits::wide(at[c]));
+        c += 1;
+    }
+    out[count] = s;
+    out
+}
+
+// The six rows; only the first `count` are solved.
+fn system(powers: &field::PowerTable, at: [u8; 6], count: usize, s: [u8; 6]) -> [[u8; 7]; 6]
+    requires { ⌜ Powers (now powers) ⌝ ∗ ⌜ count ≤ 6 ⌝ }
+    ensures { λ m. ⌜ SystemOf at count s m ⌝ }
+{
+    let mut out = [[0u8; 7]; 6];
+    let mut r: usize = 0;
+    while r < 6 {
+        out[r] = row(powers, at, count, r, s[r]);
+        r += 1;
+    }
+    out
+}
+
+// t with the bytes y added at the marked places.
+fn added(v: [u8; 14], t: [u8; 14], y: [u8; 6]) -> [u8; 14]
+    requires { ⌜ length (exponentsOf v) ≤ 6 ⌝ }
+    ensures { λ r. ⌜ r ≡ addedAt v t y ⌝ }
+{
+    let mut out = t;
+    let mut j: usize = 0;
+    let mut i: usize = 0;
+    while i < 14 {
+        if v[i] == 0 {
+            out[i] = t[i] ^ y[j];
+            j += 1;
+        }
+        i += 1;
+    }
+    out
+}
+
+// The tail changed at the marked places so that its syndromes vanish, if that can be.
+pub fn correct(
+    powers: &field::PowerTable,
+    logs: &field::LogTable,
+    t: [u8; 14],
+    s: [u8; 6],
+    w: [u8; 14],
+) -> [u8; 14]
+    requires { ⌜ Powers (now powers) ⌝ ∗ ⌜ Logs (now logs) ⌝ ∗ ⌜ Bytes t ⌝ ∗ ⌜ s ≡ tab 6 (syndrome t) ⌝ ∗ ⌜ length (exponentsOf w) ≤ 6 ⌝ }
+    ensures { λ r. ⌜ Corrected t w r ⌝ }
+{
+    let e = exponents(w);
+    let at = e.at;
+    let count = e.count;
+    let m = system(powers, at, count, s);
+    let y = solve(powers, logs, m, count);
+    added(w, t, y)
+}

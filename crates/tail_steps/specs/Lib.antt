@@ -1,3 +1,0 @@
-pub mod Code
-pub mod Massey
-pub mod Steps

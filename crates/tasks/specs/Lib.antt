@@ -1,3 +1,0 @@
-pub mod Receptions
-pub mod Tries
-pub mod Slips

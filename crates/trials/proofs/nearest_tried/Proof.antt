@@ -1,9 +1,0 @@
-use Rattle.trials.proofs.NearestTried.{nearest-tried}
-use Rattle.trials.proofs.nearest_tried.Statement.{statement}
-use Rattle.trials.proofs.nearest_tried.Tie as tie
-
-returns : tie.Need-returns
-returns c = nearest-tried
-
-pub nearest-tried-spec : {M : Type 1} → statement M
-nearest-tried-spec = tie.close (tie.spec returns)

@@ -1,9 +1,0 @@
-use Rattle.trials.proofs.Answers.{one-answer}
-use Rattle.trials.proofs.one_answer.Statement.{statement}
-use Rattle.trials.proofs.one_answer.Tie as tie
-
-returns : tie.Need-returns
-returns c = one-answer
-
-pub one-answer-spec : {M : Type 1} → statement M
-one-answer-spec = tie.close (tie.spec returns)

@@ -1,0 +1,3 @@
+pub mod Measured
+pub mod CandidateCheck
+pub mod Tried

@@ -1,0 +1,9 @@
+use Rattle.voice_rules.proofs.Answers.{one-answer}
+use Rattle.voice_rules.proofs.one_answer.Statement.{statement}
+use Rattle.voice_rules.proofs.one_answer.Tie as tie
+
+returns : tie.Need-returns
+returns c = one-answer
+
+pub one-answer-spec : {M : Type 1} → statement M
+one-answer-spec = tie.close (tie.spec returns)

@@ -1,0 +1,2 @@
+pub mod OneAfterTheOther
+pub mod Answering
