@@ -1,4 +1,4 @@
--- What the journal says of a frame by the hard decoder's answer, and how many records a frame makes.
+-- What the journal says of a frame, and how many records a frame makes.
 -- Assumes nothing.
 use mathlib.Core.List.{List, []}
 use Prim.Native.Nat.{ℕ, _+_, min}
@@ -7,21 +7,14 @@ use Rattle.bits.specs.declared.Writing.{Writing}
 use Rattle.bits.specs.declared.Writing.the-variants.{Written, Refused as NotWritten}
 use Rattle.journal_rules.specs.Gaps.{gapTo}
 use Rattle.journal_rules.specs.Record.{entryAt, writeAnswer}
-use Rattle.journal_rules.specs.declared.Outcome.the-variants.{Untried, Accepted, Refused}
+use Rattle.journal_rules.specs.declared.Outcome.the-variants.{Untried}
 use Rattle.journal_rules.specs.declared.Between.{Between}
 use Rattle.journal_rules.specs.declared.Between.the-variants.{NoGap, Gap}
 use Rattle.journal_rules.specs.declared.Body.the-variants.{Frame}
 use Rattle.journal_rules.specs.declared.Earlier.{Earlier}
 use Rattle.journal_rules.specs.declared.Entry.{Entry}
 use Rattle.sync_rules.specs.declared.Head.{Head}
-use Rattle.voice_rules.specs.declared.Decoding.{Decoding}
-use Rattle.voice_rules.specs.declared.Decoding.the-variants as decoding
-use Rattle.frame_records.specs.declared.decoding.Tried.{Tried}
-
--- "11 outcome (0 untried, 1 accepted, 2 refused), 12 corrected bits 0-32, zero unless accepted"; a count that no byte holds is 255, which the journal refuses
-abbrev pub triedBy : Decoding → Tried
-triedBy (decoding.Accepted stage n) = record { outcome = Accepted; corrected = min n 255 }
-triedBy (decoding.Refused x) = record { outcome = Refused; corrected = 0 }
+use Rattle.frame_records.specs.declared.Tried.{Tried}
 
 -- a frame that no decoder has seen
 abbrev pub notTried : Tried

@@ -1,7 +1,7 @@
 // What each program makes of a frame: lines, or records, on standard output.
 ghost use Prim.Native.Nat.{_*_, _≤_};
 ghost use Rattle.reception.specs.Receptions.{gives};
-use frame_records::try_frame;
+use frame_outcomes::try_frame;
 use frame_records::untried;
 use frame_records::write_frame;
 use journal_rules::Earlier;

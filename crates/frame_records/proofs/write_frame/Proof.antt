@@ -9,8 +9,8 @@ use Rattle.journal_rules.specs.declared.Body.the-variants.{Frame}
 use Rattle.frame_records.specs.Tries.{entryOf, recordsOf}
 use Rattle.frame_records.proofs.Tallies.{entry-few, gap-few}
 use borrow.Author.Needs.{needs}
-use Rattle.frame_records.proofs.writing.write_frame.Statement.{statement}
-use Rattle.frame_records.proofs.writing.write_frame.Tie as tie
+use Rattle.frame_records.proofs.write_frame.Statement.{statement}
+use Rattle.frame_records.proofs.write_frame.Tie as tie
 
 add-result : tie.Need-add-result
 add-result c =

@@ -2,10 +2,10 @@
 -- Assumes nothing.
 use mathlib.Core.Path.{ap, _∙_}
 use Rattle.voice_rules.specs.declared.Decoded.{Decoded}
-use Rattle.frame_records.specs.Tries.{triedBy}
+use Rattle.frame_outcomes.specs.Outcomes.{triedBy}
 use borrow.Author.Needs.{needs}
-use Rattle.frame_records.proofs.decoding.try_frame.Statement.{statement}
-use Rattle.frame_records.proofs.decoding.try_frame.Tie as tie
+use Rattle.frame_outcomes.proofs.try_frame.Statement.{statement}
+use Rattle.frame_outcomes.proofs.try_frame.Tie as tie
 
 returns : tie.Need-returns
 returns c = c .from-decoding .ensures ∙ ap (λ (d : Decoded). triedBy (d .decoding)) (c .before .decode .ensures)

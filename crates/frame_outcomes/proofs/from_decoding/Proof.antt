@@ -3,11 +3,11 @@
 use mathlib.Core.Path.{sym, ap, _∙_}
 use Prim.Native.Nat.{ℕ}
 use Rattle.journal_rules.specs.declared.Outcome.the-variants.{Accepted}
-use Rattle.frame_records.specs.declared.decoding.Tried.{Tried}
-use Rattle.frame_records.specs.Tries.{triedBy}
+use Rattle.frame_records.specs.declared.Tried.{Tried}
+use Rattle.frame_outcomes.specs.Outcomes.{triedBy}
 use borrow.Author.Needs.{needs}
-use Rattle.frame_records.proofs.decoding.from_decoding.Statement.{statement}
-use Rattle.frame_records.proofs.decoding.from_decoding.Tie as tie
+use Rattle.frame_outcomes.proofs.from_decoding.Statement.{statement}
+use Rattle.frame_outcomes.proofs.from_decoding.Tie as tie
 
 returns : tie.Need-returns
 returns c =

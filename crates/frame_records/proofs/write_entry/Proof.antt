@@ -3,8 +3,8 @@
 use mathlib.Core.Path.{sym, ap, _∙_}
 use Rattle.frame_records.specs.Tries.{onePer, recordsOf}
 use borrow.Author.Needs.{needs}
-use Rattle.frame_records.proofs.writing.write_entry.Statement.{statement}
-use Rattle.frame_records.proofs.writing.write_entry.Tie as tie
+use Rattle.frame_records.proofs.write_entry.Statement.{statement}
+use Rattle.frame_records.proofs.write_entry.Tie as tie
 
 returns : tie.Need-returns
 unfolding recordsOf

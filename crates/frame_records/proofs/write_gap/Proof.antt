@@ -3,8 +3,8 @@
 use mathlib.Core.Path.{sym, ap, _∙_}
 use Rattle.frame_records.specs.Tries.{gapRecords}
 use borrow.Author.Needs.{needs}
-use Rattle.frame_records.proofs.writing.write_gap.Statement.{statement}
-use Rattle.frame_records.proofs.writing.write_gap.Tie as tie
+use Rattle.frame_records.proofs.write_gap.Statement.{statement}
+use Rattle.frame_records.proofs.write_gap.Tie as tie
 
 returns : tie.Need-returns
 unfolding gapRecords
