@@ -1,5 +1,5 @@
 -- How many positions can be pending, and that they never fill up for a caller that releases all that is ready. Assumes nothing.
-use mathlib.Core.Path.{_≡_, refl, sym, subst, _∙_}
+use mathlib.Core.Path.{_≡_, refl, sym, subst, ap, _∙_}
 use mathlib.Core.Bool.{Bool, true, false, cond, _&&_}
 use mathlib.Core.List.{List, [], _∷_, _++_}
 use Prim.Native.Nat.{ℕ, zero, suc, _+_, _*_, _<_, _≤_}
@@ -8,15 +8,16 @@ use lib.ListN.{length, length-set}
 use borrow.Author.Tests.{ltb-false, leb-true}
 use Rattle.bits.specs.Alls.{All}
 use Rattle.bits.specs.declared.Refusal.the-variants.{Positions}
+use Rattle.sync_rules.specs.Moves.{noMoves}
 use Rattle.bits.proofs.Alls.{all-at, all-set, all-map}
 use Rattle.merger_rules.specs.declared.Clock.{Clock}
-use Rattle.merger_rules.specs.declared.Clock.the-variants.{At}
+use Rattle.merger_rules.specs.declared.Clock.the-variants.{At, Absent}
 use Rattle.merger_rules.specs.declared.Held.{Held}
 use Rattle.merger_rules.specs.declared.Place.{Place}
 use Rattle.merger_rules.specs.declared.Place.the-variants.{Empty, Holds}
 use Rattle.merger_rules.specs.declared.Position.{Position}
 use Rattle.merger_rules.specs.declared.Keeping.the-variants.{Refused}
-use Rattle.merger_rules.specs.Merging.{View, view, homeOf, orderOf, noPosition, alone, PushStep, pushOf, passed, isReady, releaseOf}
+use Rattle.merger_rules.specs.Merging.{View, view, heldOf, homeOf, orderOf, noPosition, alone, PushStep, pushOf, passed, isReady, releaseOf}
 use Rattle.merger_rules.specs.States.{Spaced, Sound}
 use Rattle.merger_rules.specs.Scripts.{started}
 use Rattle.merger_rules.specs.Source.{slotReady, turnOf, Many, many, sourceRelease, times}
@@ -165,7 +166,46 @@ module _ (d : ℕ) where
 
 -- ── one stream alone ──
 
+-- the primary's frame at an offset, as `oneSided` has it
+abbrev lone : ℕ → Held
+lone o = heldOf (record { offset = o; matched = true; errors = 0; moves = noMoves }) o true
+
+-- n positions with a frame of the primary each, 384 apart from offset o on
+abbrev standing : ℕ → ℕ → List Position
+standing zero o = []
+standing (suc n) o = alone 0 (lone o) ∷ standing n (o + 384)
+
+abbrev stood : ℕ → View
+stood n = view (standing n 0) Absent
+
+-- releases that find nothing ready leave the state
+times-still : (n a b : ℕ) (v : View) → releaseOf (At a) (At b) false v .next ≡ v → times n (At a) (At b) false v .next ≡ v
+times-still zero a b v e = refl
+times-still (suc n) a b v e = ap (λ (w : View). times n (At a) (At b) false w .next) e ∙ times-still n a b v e
+
+-- a round whose frame is pushed and that releases nothing
+next : (n o : ℕ) (v w : View) → pushOf 0 (lone o) v .next ≡ w → releaseOf (At (o + 384)) (At 0) false w .next ≡ w → RoomIn (oneSided (suc n) o) v → RoomIn (oneSided n (o + 384)) w
+next n o v w p s r =
+    subst (RoomIn (oneSided n (o + 384))) (ap (λ (x : View). times 16 (At (o + 384)) (At 0) false x .next) p ∙ times-still 16 (o + 384) 0 w s) (r .1)
+
 -- while the other stands still: the seventeenth frame finds no position
 pub seventeen : RoomIn (oneSided 17 0) started → ⊥
 unfolding homeOf orderOf
-seventeen r = r .1 .1 .1 .1 .1 .1 .1 .1 .1 .1 .1 .1 .1 .1 .1 .1 .0 .0 refl
+seventeen r =
+    let r1 = next 16 0 (stood 0) (stood 1) refl refl r in
+    let r2 = next 15 384 (stood 1) (stood 2) refl refl r1 in
+    let r3 = next 14 768 (stood 2) (stood 3) refl refl r2 in
+    let r4 = next 13 1152 (stood 3) (stood 4) refl refl r3 in
+    let r5 = next 12 1536 (stood 4) (stood 5) refl refl r4 in
+    let r6 = next 11 1920 (stood 5) (stood 6) refl refl r5 in
+    let r7 = next 10 2304 (stood 6) (stood 7) refl refl r6 in
+    let r8 = next 9 2688 (stood 7) (stood 8) refl refl r7 in
+    let r9 = next 8 3072 (stood 8) (stood 9) refl refl r8 in
+    let r10 = next 7 3456 (stood 9) (stood 10) refl refl r9 in
+    let r11 = next 6 3840 (stood 10) (stood 11) refl refl r10 in
+    let r12 = next 5 4224 (stood 11) (stood 12) refl refl r11 in
+    let r13 = next 4 4608 (stood 12) (stood 13) refl refl r12 in
+    let r14 = next 3 4992 (stood 13) (stood 14) refl refl r13 in
+    let r15 = next 2 5376 (stood 14) (stood 15) refl refl r14 in
+    let r16 = next 1 5760 (stood 15) (stood 16) refl refl r15 in
+    r16 .0 .0 refl
