@@ -1,18 +1,18 @@
-// The code of scrambling a word into the 384 bits of an envelope and back, and of CRC-16. What they mean is defined in crate `coding_rules`.
+// Scrambles a word into the 384 bits of an envelope and back. What that means is defined in crate `coding_rules`; CRC-16, which is named here too, is the crate
+// `coding_crc`.
 ghost use mathlib.Core.Path.{_≡_};
 ghost use Rattle.coding_rules.specs.Markers.{theMarkers};
 
-mod crc;
 mod scrambling;
 
-pub use crc::crc16;
+pub use coding_crc::crc16;
 pub use scrambling::descramble;
 pub use scrambling::scramble;
 
 // The marker that opens each of an envelope's three segments.
 const MARKERS: [u16; 3] = [0x3d22, 0xe867, 0xe867];
 
-// The markers as a value. A constant is stored anew at each use: a caller that tests many places makes it once and lends it.
+// Gives the markers as a value. A constant is stored anew at each use: a caller that tests many places makes it once and lends it.
 pub fn markers() -> [u16; 3]
     ensures { λ r. ⌜ r ≡ theMarkers ⌝ }
 {

@@ -35,7 +35,7 @@ pub record Rises : Type 0 where
 
 -- how far snapping moves an offset: from 192 after the last release on, back by at most 191 and on by at most 192; less than 192 after it, on to 384 after it;
 -- 16 frames after it, at it and before it, not at all. So never back by more than 191, nor on by more than 383
-pub record Moves : Type 0 where
+pub record Snapping : Type 0 where
   pub near : (l o : ℕ) → l + 192 ≤ o → o < l + 16 * 384 → (o ≤ snapped (At l) o + 191) × (snapped (At l) o ≤ o + 192)
   pub close : (l o : ℕ) → l < o → o < l + 192 → snapped (At l) o ≡ l + 384
   pub far : (l o : ℕ) → l + 16 * 384 ≤ o → snapped (At l) o ≡ o
@@ -58,7 +58,7 @@ pub record Fates : Type 0 where
 
 -- the numbers that a release gives back are those of the position that it takes out, and none where nothing is ready. Over any script each kept number is given
 -- back exactly once or is pending; a number that is handed on is given back; so a number that was kept once is handed on at most once
-pub record Numbers : Type 0 where
+pub record GivenBack : Type 0 where
   pub taken-out : (s₀ s₁ : Clock) (flush : Bool) (p : Position) (ps : List Position) (last : Clock) → isReady s₀ s₁ flush p ≡ true
       → (releaseOf s₀ s₁ flush (view (p ∷ ps) last) .freed ≡ freedOf p) × (releaseOf s₀ s₁ flush (view (p ∷ ps) last) .next .pending ≡ ps)
   pub not-ready : (s₀ s₁ : Clock) (flush : Bool) (v : View) → releaseOf s₀ s₁ flush v .answer ≡ NothingReady → releaseOf s₀ s₁ flush v ≡ releaseStep NothingReady noneFreed v
@@ -79,7 +79,7 @@ pub record AsTheSource : Type 0 where
 -- frames off the grid. After a frame of own offset o that was released as l, a frame of own offset n, a whole frame or more after it, is not passed over; if
 -- o was moved on by at most 191, n is not late either, and is moved back by at most 191 and on by at most 192. Only a frame exactly half a frame off the grid is
 -- moved on by 192, and then the next frame of its stream, 384 after it, is late
-pub record Slips : Type 0 where
+pub record OffGrid : Type 0 where
   pub not-passed : (last : Clock) (o n : ℕ) → o + 384 ≤ n → Later (At (snapped last o)) n
   pub not-late : (last : Clock) (o n : ℕ) → snapped last o ≤ o + 191 → o + 384 ≤ n → isLate (At (snapped last o)) n ≡ false
   pub moved : (last : Clock) (o n : ℕ) → snapped last o ≤ o + 192 → o + 384 ≤ n → (n ≤ snapped (At (snapped last o)) n + 191) × (snapped (At (snapped last o)) n ≤ n + 192)

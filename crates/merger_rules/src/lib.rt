@@ -3,7 +3,7 @@
 //
 // Read specs/Merging.antt for what the answers are, specs/Source.antt for the source's own loop, specs/Statements.antt for what is proved of them: each theorem is the
 // `ensures` of an empty function, so that it cannot vanish. Nothing runs here.
-ghost use Rattle.merger_rules.specs.Statements.{Reached, Rises, Moves, OnlyReady, Fates, Numbers, FromKept, AsTheSource, Slips, NeverFull};
+ghost use Rattle.merger_rules.specs.Statements.{Reached, Rises, Snapping, OnlyReady, Fates, GivenBack, FromKept, AsTheSource, OffGrid, NeverFull};
 use bits::Refusal;
 use sync_rules::Head;
 
@@ -84,8 +84,8 @@ pub fn rises()
 {}
 
 // How far snapping moves an offset.
-pub fn moves()
-    ensures { λ _. ⌜ Moves ⌝ }
+pub fn snapping()
+    ensures { λ _. ⌜ Snapping ⌝ }
 {}
 
 // A position is taken out only when each stream has delivered it or moved past it, or at a flush.
@@ -99,8 +99,8 @@ pub fn fates()
 {}
 
 // Each kept number is given back exactly once or pending; no frame is released twice.
-pub fn numbers()
-    ensures { λ _. ⌜ Numbers ⌝ }
+pub fn given_back()
+    ensures { λ _. ⌜ GivenBack ⌝ }
 {}
 
 // What is released was pushed and kept, its figures and number its own, only its offset snapped.
@@ -114,8 +114,8 @@ pub fn as_the_source()
 {}
 
 // Frames off the grid.
-pub fn slips()
-    ensures { λ _. ⌜ Slips ⌝ }
+pub fn off_grid()
+    ensures { λ _. ⌜ OffGrid ⌝ }
 {}
 
 // Refusal 9 does not come to a caller that releases all that is ready.

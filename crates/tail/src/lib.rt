@@ -1,20 +1,16 @@
 // The tail of a word: fourteen bytes, eight of them free, with the roots 2^0 to 2^5, and its repair, with or without erased places.
-// The definitions, and what they mean, are in crate `tail_rules` (specs/Repair.antt, Calls.antt, RepairStatements.antt). Here a call tests what it is lent
-// and writes; the repair by value is the crate `tail_repair`, and the making of a tail, whose call is named here too, the crate `tail_making`.
-// The field's two tables are made once at the top of each call and lent to everything below.
+// The definitions, and what they mean, are in crate `tail_rules` (specs/Repair.antt, Calls.antt, RepairStatements.antt). Here a call tests what it is lent;
+// the crate `tail_lent` repairs a lent tail, `tail_repair` one by value, and `tail_making` makes a tail: its call is named here too.
 ghost use mathlib.Core.Path.{_≡_};
 ghost use mathlib.Core.List.{[]};
 ghost use Rattle.tail_rules.specs.Calls.{tailAnswer, tailLeaves, wordAnswer, wordLeaves};
 use bits::Refusal;
-
-mod lent;
-
+use tail_lent::may_erase;
+use tail_lent::repair_lent;
 pub use tail_making::encode_word;
-pub use tail_repair::RepairedTail;
-pub use tail_repair::repair_by;
 pub use tail_rules::Repairing;
 
-// The repair of a lent tail with places erased.
+// Repairs a lent tail with places erased.
 pub fn repair_erasures(tail: &mut [u8], places: &[u8]) -> Repairing
     ensures { λ r. ⌜ r ≡ tailAnswer (now (places .entry)) (now (tail .entry)) ⌝ }
     ensures leaves { λ r. ⌜ now (tail .exit) ≡ tailLeaves (now (places .entry)) (now (tail .entry)) ⌝ }
@@ -22,13 +18,13 @@ pub fn repair_erasures(tail: &mut [u8], places: &[u8]) -> Repairing
     if tail.len() != 14 {
         return Repairing::Refused(Refusal::Size);
     }
-    if !lent::may_erase(places) {
+    if !may_erase(places) {
         return Repairing::Refused(Refusal::Erasure);
     }
-    lent::repair_lent(tail, places)
+    repair_lent(tail, places)
 }
 
-// The repair of a lent tail.
+// Repairs a lent tail.
 pub fn repair(tail: &mut [u8]) -> Repairing
     ensures { λ r. ⌜ r ≡ tailAnswer [] (now (tail .entry)) ⌝ }
     ensures leaves { λ r. ⌜ now (tail .exit) ≡ tailLeaves [] (now (tail .entry)) ⌝ }
@@ -37,7 +33,7 @@ pub fn repair(tail: &mut [u8]) -> Repairing
     repair_erasures(tail, &none[..0])
 }
 
-// The repair of a lent word with places of its tail erased: only its last fourteen bytes are lent on.
+// Repairs a lent word with places of its tail erased: only its last fourteen bytes are lent on.
 pub fn repair_word_erasures(word: &mut [u8], places: &[u8]) -> Repairing
     ensures { λ r. ⌜ r ≡ wordAnswer (now (places .entry)) (now (word .entry)) ⌝ }
     ensures leaves { λ r. ⌜ now (word .exit) ≡ wordLeaves (now (places .entry)) (now (word .entry)) ⌝ }
@@ -48,7 +44,7 @@ pub fn repair_word_erasures(word: &mut [u8], places: &[u8]) -> Repairing
     repair_erasures(&mut word[28..], places)
 }
 
-// The repair of a lent word.
+// Repairs a lent word.
 pub fn repair_word(word: &mut [u8]) -> Repairing
     ensures { λ r. ⌜ r ≡ wordAnswer [] (now (word .entry)) ⌝ }
     ensures leaves { λ r. ⌜ now (word .exit) ≡ wordLeaves [] (now (word .entry)) ⌝ }

@@ -8,7 +8,7 @@ ghost use Rattle.tail_rules.specs.Encode.{withCrc, tailOf};
 fn with_crc(d: [u8; 6]) -> [u8; 8]
     ensures { λ r. ⌜ r ≡ withCrc d ⌝ }
 {
-    let crc = coding::crc16(&d);
+    let crc = coding_crc::crc16(&d);
     [
         d[0],
         d[1],

@@ -11,6 +11,7 @@ ghost use Rattle.protected_rules.specs.Table.{Admitted};
 ghost use Rattle.voice_rules.specs.Candidate.{unlike, validMode, repairTests};
 ghost use Rattle.voice_rules.specs.Trial.{passing};
 ghost use Rattle.voice_speech.specs.Heard.{speechOf, checkedVerdict};
+use bits::wide32;
 use voice_rules::Stage;
 use voice_speech::Speech;
 use voice_speech::silent;
@@ -31,14 +32,9 @@ pub fn mode_valid(word: &[u8; 42]) -> bool
     true
 }
 
-fn wide32(x: u16) -> u32
+// Gives a checksum as a number of 32 bits.
+fn checksum32(x: u16) -> u32
     ensures { λ r. ⌜ (r ≡ x) × (r < 65536) ⌝ }
-{
-    x as u32
-}
-
-fn byte32(x: u8) -> u32
-    ensures { λ r. ⌜ (r ≡ x) × (r < 256) ⌝ }
 {
     x as u32
 }
@@ -48,8 +44,8 @@ pub fn crc_unlike(word: &[u8]) -> u32
     requires { ⌜ length (now word) ≡ 42 ⌝ }
     ensures { λ r. ⌜ r ≡ unlike (getD (now (word .entry)) 34 0 * 256 + getD (now (word .entry)) 35 0) (crcOf (take 6 (drop 28 (now (word .entry))))) ⌝ }
 {
-    let crc = wide32(coding::crc16(&word[28..34]));
-    let held = byte32(word[34]) * 256 + byte32(word[35]);
+    let crc = checksum32(coding_crc::crc16(&word[28..34]));
+    let held = wide32(word[34]) * 256 + wide32(word[35]);
     if held == crc {
         return 0;
     }
@@ -84,7 +80,7 @@ fn end_bits(input: &[u8]) -> u32
 {
     let mut d: u32 = 0;
     for i in 0..8usize {
-        d += byte32(input[86 + i]);
+        d += wide32(input[86 + i]);
     }
     d
 }

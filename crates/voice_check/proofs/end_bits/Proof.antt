@@ -21,7 +21,7 @@ loop-again : tie.Need-loop-again Inv-loop μ-loop
 loop-again c =
     let l = c .before .before .before .loop in
     let z = c .before .before .before .before .before in
-    (search needs, (search needs, sum-turn (λ j. getD (z .args .input .now) (86 + j) 0) (l .i) (l .inv .1 .1) (c .byte32 .ensures .0)))
+    (search needs, (search needs, sum-turn (λ j. getD (z .args .input .now) (86 + j) 0) (l .i) (l .inv .1 .1) (c .wide32 .ensures .0)))
 
 returns : tie.Need-returns Inv-loop μ-loop
 returns c =

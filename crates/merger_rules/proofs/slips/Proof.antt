@@ -1,9 +1,0 @@
-use Rattle.merger_rules.proofs.Snaps.{slip-later, slip-not-late, slip-moved, slip-half}
-use Rattle.merger_rules.proofs.slips.Statement.{statement}
-use Rattle.merger_rules.proofs.slips.Tie as tie
-
-returns : tie.Need-returns
-returns c = record { not-passed = slip-later; not-late = λ last o n h w. slip-not-late last o n w h; moved = λ last o n h w. slip-moved last o n w h; half = slip-half }
-
-pub slips-spec : {M : Type 1} → statement M
-slips-spec = tie.close (tie.spec returns)
