@@ -3,7 +3,7 @@
 -- In this order: document 01's table 'Numbered refusals', each of its lines once, as a test; what it is to refuse by tests in an order; the number
 -- of each kind of answer; what each call refuses; and `Demand1`, a field a call: what its contract promises refuses so.
 -- A field speaks of exactly the definitions that the call's contract cites: coding::descramble ensures that it answers `sizeAnswer` and leaves
--- `afterDescramble`, Synchroniser::push ensures `PushedBy`. And crate demand_calls makes each call and promises the same of what it gave and left.
+-- `afterDescramble`, Synchroniser::push ensures `PushedBy`. And the crates demand_coding, demand_speech and demand_stream make each call and promise the same of what it gave and left.
 -- Where a name is from, the lines below say: Rattle.coding_rules.specs.Calls is the file crates/coding/specs/Calls.antt, and what lies under `declared`
 -- is a type of the crate's src/.
 -- Inputs are not restricted: no call has a `requires` but its state's invariant, which every call that hands out a state ensures. What is lent

@@ -63,7 +63,7 @@ pub record Demand2 : Type 0 where
       → Bytes payload → length envelope ≡ 48
       → decodeAnswer table (encodeLeaves table payload alternate envelope) ≡ accepted StageA 0 (cleared payload)
 
--- ---- the same of the calls themselves, made one after the other (crate demand_calls)
+-- ---- the same of the calls themselves, made one after the other (crate demand_speech)
 
 -- A payload is encoded into a lent envelope, which then holds envelope′, and decoded from there with the answer r.
 pub record EncodedAndDecoded (table payload : List ℕ) (alternate : Bool) (envelope envelope′ : List ℕ) (r : Decoded) : Type 0 where

@@ -169,7 +169,9 @@ pub read-written : (r : List ℕ) → Bytes r → (e : Entry) → readOf 64 r �
 read-written r h e q = go (says r e q)
   where
     go : Says r e → r ≡ recordOf e (envelopeIn (e .body) r)
-    go (frame l k t p) = subst (λ (x : Entry). r ≡ recordOf x (envelopeIn (x .body) r)) p (frame-is r h l k t)
+    go (frame l k t p) =
+        subst (λ (x : Entry). r ≡ recordOf x (envelopeIn (x .body) r)) p
+        (frame-is r h l k t ∙ ap (recordOf (frameIn r)) (sym (take-all 48 (drop 16 r) (simp length-drop (omega arith)))))
     go (gap l k t p) = subst (λ (x : Entry). r ≡ recordOf x (envelopeIn (x .body) r)) p (gap-is r h l [] k t)
 
 pub read-allowed : (r : List ℕ) (e : Entry) → readOf 64 r ≡ Holds e → allowed e ≡ true
@@ -183,9 +185,9 @@ pub one-record : (r s : List ℕ) → Bytes r → Bytes s → (e : Entry) → re
     → envelopeIn (e .body) r ≡ envelopeIn (e .body) s → r ≡ s
 one-record r s hr hs e p q v = read-written r hr e p ∙ ap (recordOf e) v ∙ sym (read-written s hs e q)
 
-pub envelope-lies : (o : ℕ) (f : Figures) (envelope : List ℕ) → envelopeIn (Frame f) (recordOf (entryAt o (Frame f)) envelope) ≡ envelope
+pub envelope-lies : (o : ℕ) (f : Figures) (envelope : List ℕ) → length envelope ≡ 48 → envelopeIn (Frame f) (recordOf (entryAt o (Frame f)) envelope) ≡ envelope
 unfolding bigEndian
-envelope-lies o f envelope = refl
+envelope-lies o f envelope l = take-all 48 envelope (omega arith)
 
 -- ---- what is not read
 

@@ -64,5 +64,5 @@ readOf size r = cond (eqb (length r) size) (sayOf r) (Refused Record)
 
 -- the envelope that lies in the record of an entry: "16-63 envelope", and none in a gap's
 abbrev pub envelopeIn : Body → List ℕ → List ℕ
-envelopeIn (Frame f) r = drop 16 r
+envelopeIn (Frame f) r = take 48 (drop 16 r)
 envelopeIn (Gap n) r = []

@@ -24,7 +24,7 @@ use Rattle.journal_rules.specs.Gaps.{Framed, piecesOf, piecesAlone, fram
 pub record OneMeaning : Type 0 where
   -- what may be written reads back, and the envelope lies in the record
   pub written-reads : (e : Entry) (envelope : List ℕ) → sizeFits (e .body) (length envelope) ≡ true → allowed e ≡ true → readOf 64 (recordOf e envelope) ≡ Holds e
-  pub envelope-lies : (o : ℕ) (f : Figures) (envelope : List ℕ) → envelopeIn (Frame f) (recordOf (entryAt o (Frame f)) envelope) ≡ envelope
+  pub envelope-lies : (o : ℕ) (f : Figures) (envelope : List ℕ) → length envelope ≡ 48 → envelopeIn (Frame f) (recordOf (entryAt o (Frame f)) envelope) ≡ envelope
   -- what reads keeps the rules, and is what would be written
   pub read-allowed : (r : List ℕ) (e : Entry) → readOf 64 r ≡ Holds e → allowed e ≡ true
   pub read-written : (r : List ℕ) → Bytes r → (e : Entry) → readOf 64 r ≡ Holds e → r ≡ recordOf e (envelopeIn (e .body) r)
