@@ -1,4 +1,5 @@
-// The voice frame's soft decoder: hard decoding first, then the candidates of a weighted search. Its answer is defined in the crate `voice_rules`.
+// The voice frame's soft decoder: hard decoding first, then the candidates of a weighted search (crate `voice_candidates`). Its answer is defined in the
+// crate `voice_rules`.
 ghost use mathlib.Core.Path.{_≡_};
 ghost use Rattle.field.specs.Lent.{Powers, Logs};
 ghost use Rattle.protected_rules.specs.Table.{Admitted};
@@ -10,10 +11,7 @@ use bits::Refusal;
 use voice_rules::Decoded;
 use voice_speech::Speech;
 
-mod candidates;
-mod reliable;
-
-// The soft decoder for a word: hard first, and other than 384 reliabilities add nothing.
+// Decodes a word: hard first, then softly where there are 384 reliabilities; any other number adds nothing.
 fn softly(
     powers: &field::PowerTable,
     logs: &field::LogTable,
@@ -32,10 +30,10 @@ fn softly(
     if reliabilities.len() != 384 {
         return voice_speech::silent();
     }
-    candidates::candidates(powers, logs, table, word, received, reliabilities)
+    voice_candidates::candidates(powers, logs, table, word, received, reliabilities)
 }
 
-// Soft decoding: refusal 5 for the size, then 4 for the table, then 6 where no candidate is accepted.
+// Decodes an envelope softly: refusal 5 for the size, then 4 for the table, then 6 where no candidate is accepted.
 pub fn decode_soft(table: &[u8], envelope: &[u8], reliabilities: &[u8]) -> Decoded
     ensures { λ r. ⌜ r ≡ softAnswer (now (table .entry)) (now (envelope .entry)) (now (reliabilities .entry)) ⌝ }
 {

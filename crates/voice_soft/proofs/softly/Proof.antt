@@ -1,15 +1,23 @@
-use mathlib.Core.Path.{refl, sym, _∙_}
-use mathlib.Core.Bool.{true, false}
-use Prim.Native.Nat.{_-_}
+use mathlib.Core.Path.{_≡_, refl, sym, _∙_}
+use mathlib.Core.Bool.{Bool, true, false, cond}
+use mathlib.Core.List.{List, []}
+use Prim.Native.Nat.{ℕ, _-_}
 use lib.Dec.{eqb}
 use lib.ListN.{length}
 use borrow.Author.Tests.{eq-eqb, ne-eqb}
+use Rattle.voice_rules.specs.Hard.{hardTrials, decodedWord}
+use Rattle.voice_rules.specs.Soft.{softTrials, softlyDecodedWord}
 use Rattle.voice_rules.specs.Trial.{firstOf}
-use Rattle.voice_speech.proofs.OneAfterTheOther.{then-first, then-second}
-use Rattle.voice_soft.proofs.SoftTrials.{hard-first}
+use Rattle.voice_speech.specs.Heard.{told, either}
+use Rattle.voice_speech.proofs.OneAfterTheOther.{told-append, then-first, then-second}
 use borrow.Author.Needs.{needs}
 use Rattle.voice_soft.proofs.softly.Statement.{statement}
 use Rattle.voice_soft.proofs.softly.Tie as tie
+
+hard-first : (table word rs : List ℕ) (n : Bool) → eqb (length rs) 384 ≡ n
+    → told (softlyDecodedWord table word rs) ≡ either (told (decodedWord table word)) (told (firstOf (cond n (softTrials table word rs) [])))
+unfolding softlyDecodedWord decodedWord
+hard-first table word rs n e = rw e (told-append (hardTrials table word) (cond n (softTrials table word rs) []))
 
 returns : tie.Need-returns
 returns c =

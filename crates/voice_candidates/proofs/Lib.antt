@@ -1,0 +1,2 @@
+pub mod SoftTrials
+pub mod Turns
