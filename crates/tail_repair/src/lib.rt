@@ -1,4 +1,4 @@
-// The repair of a tail by value, with the field's tables lent: for `voice_frame` and `voice_soft`, which repair many tails, and for the calls of `tail`.
+// The repair of a tail by value, with the field's tables lent: for `voice_hard` and `voice_candidates`, which repair many tails, and for the calls of `tail`.
 // What is right is in crate `tail_rules`, specs/Repair.antt: the codeword near the tail, and the number of bytes in which it differs.
 ghost use mathlib.Core.Path.{_≡_};
 ghost use mathlib.Core.List.{[]};

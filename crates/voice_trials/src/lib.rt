@@ -13,6 +13,11 @@ ghost use Rattle.voice_rules.specs.Trial.{passing};
 ghost use Rattle.voice_speech.specs.Heard.{said, either};
 use voice_check::checked;
 use voice_check::repair_valid;
+use voice_rules::MOST_DISTANCE;
+use voice_rules::MOST_MODE_BITS;
+use voice_rules::MOST_OUTER_BITS;
+use voice_rules::MOST_OUTER_BYTES;
+use voice_rules::MOST_TOTAL;
 use voice_rules::Stage;
 use voice_speech::Speech;
 use voice_speech::silent;
@@ -38,7 +43,17 @@ pub fn plain(
     if !valid {
         return silent();
     }
-    checked(powers, logs, table, received, word, x, 8, 0, stage)
+    checked(
+        powers,
+        logs,
+        table,
+        received,
+        word,
+        x,
+        MOST_DISTANCE,
+        0,
+        stage,
+    )
 }
 
 // (b): checks the word with its tail repaired, with what the inverse filter and then with what the path search finds in it, measured from the
@@ -71,7 +86,7 @@ pub fn repaired(
         received,
         mended,
         &x,
-        8,
+        MOST_DISTANCE,
         extra,
         Stage::StageB,
     );
@@ -86,7 +101,7 @@ pub fn repaired(
         received,
         mended,
         &y,
-        8,
+        MOST_DISTANCE,
         extra,
         Stage::StageB,
     )
@@ -98,16 +113,16 @@ pub fn repaired(
 fn joint_valid(word: &[u8; 42], c: &[u8; 42], flag: u8) -> bool
     ensures { λ r. ⌜ r ≡ passing (jointTests (now (word .entry)) (now (c .entry)) flag) ⌝ }
 {
-    if mode_apart(word, word[33] % 2) > 2 {
+    if mode_apart(word, word[33] % 2) > MOST_MODE_BITS {
         return false;
     }
-    if mode_apart(word, flag) > 2 {
+    if mode_apart(word, flag) > MOST_MODE_BITS {
         return false;
     }
-    if bits_apart(c, word, 28, 14) > 6 {
+    if bits_apart(c, word, 28, 14) > MOST_OUTER_BITS {
         return false;
     }
-    if bytes_apart(c, word, 28, 14) > 4 {
+    if bytes_apart(c, word, 28, 14) > MOST_OUTER_BYTES {
         return false;
     }
     true
@@ -138,11 +153,11 @@ fn joint(
         received,
         &c,
         x,
-        8,
+        MOST_DISTANCE,
         bits_apart(&c, word, 32, 10),
         Stage::StageD,
     );
-    if s.corrected > 12 {
+    if s.corrected > MOST_TOTAL {
         return silent();
     }
     s
