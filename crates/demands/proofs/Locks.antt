@@ -20,7 +20,7 @@ use Rattle.sync_rules.proofs.Keeping.{sends-found, quiet-found}
 
 -- frames of a call on the state m that handed back the state n with no lock: m has a lock
 abbrev pub Held : State → List Frame → State → Type 0
-Held m fs n = 0 < length fs → n .locked ≡ false → m .locked ≡ true
+Held m fs n = 0 < length fs → n .figures .locked ≡ false → m .figures .locked ≡ true
 
 by-push : (a : Push) (x : Input) (m : State) → Held m (pushOf a x m .sent) (pushOf a x m .next)
 unfolding pushOf
@@ -44,7 +44,7 @@ unfolding fedOf
 by-feed room [] m = λ some w. absurd (omega arith)
 by-feed room (x ∷ xs) m = by-answer x m (fedOf room xs (step x m .next)) (by-feed room xs (step x m .next)) (answerTo room x m)
 
-pub found-held : (s : Synchroniser) (c : Call) → Meets s c → 0 < answerOf c .count → answerOf c .next .numbers .locked ≡ false → s .numbers .locked ≡ true
+pub found-held : (s : Synchroniser) (c : Call) → Meets s c → 0 < answerOf c .count → answerOf c .next .numbers .figures .locked ≡ false → s .numbers .figures .locked ≡ true
 unfolding Meets answerOf
-found-held s (pushing x room left r) p some w = by-push (answerTo (length room) x (view s)) x (view s) (omega (arith, p .many)) (sym (ap (λ (m : State). m .locked) (p .next)) ∙ w)
-found-held s (feeding xs room left r) f some w = by-feed (length room) xs (view s) (omega (arith, f .many)) (sym (ap (λ (m : State). m .locked) (f .next)) ∙ w)
+found-held s (pushing x room left r) p some w = by-push (answerTo (length room) x (view s)) x (view s) (omega (arith, p .many)) (sym (ap (λ (m : State). m .figures .locked) (p .next)) ∙ w)
+found-held s (feeding xs room left r) f some w = by-feed (length room) xs (view s) (omega (arith, f .many)) (sym (ap (λ (m : State). m .figures .locked) (f .next)) ∙ w)

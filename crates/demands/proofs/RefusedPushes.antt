@@ -41,7 +41,7 @@ push-cases false false false = refl
 
 push-number : (room : List ℕ) (x : Input) (m : State) → numberInPush (answerTo (length room) x m) ≡ firstNumber (pushTests room m (x .dibit))
 unfolding answerTo
-push-number room x m = push-cases (ltb 3 (x .dibit)) (ltb (length room) 1296) (leb (2 ^ 40) (m .taken))
+push-number room x m = push-cases (ltb 3 (x .dibit)) (ltb (length room) 1296) (leb (2 ^ 40) (m .figures .taken))
 
 pub push-refuses : (s : Synchroniser) (x : Input) (room : List ℕ) (r : Pushed) (room′ : List ℕ) → PushedBy room room′ s x r → PushRefuses s x room r room′
 unfolding takes pushOf laid

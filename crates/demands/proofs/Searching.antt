@@ -96,9 +96,9 @@ exactly bits p q k earlier out h row =
       later = λ j l. omega (arith, offset j (omega arith), offset (suc j) l);
     }
 
-is-taken : (x : Input) (room : ℕ) (m : State) → x .dibit ≤ 3 → 1296 ≤ room → m .taken < 2 ^ 40 → answerTo room x m ≡ Taken
+is-taken : (x : Input) (room : ℕ) (m : State) → x .dibit ≤ 3 → 1296 ≤ room → m .figures .taken < 2 ^ 40 → answerTo room x m ≡ Taken
 unfolding answerTo
-is-taken x room m a b h = simp (le-ltb 3 (x .dibit) a, le-ltb room 1296 b, lt-leb (2 ^ 40) (m .taken) h)
+is-taken x room m a b h = simp (le-ltb 3 (x .dibit) a, le-ltb room 1296 b, lt-leb (2 ^ 40) (m .figures .taken) h)
 
 pub demand-three : demandCalls → Demand3
 demand-three demand s n before after h b =
@@ -165,17 +165,17 @@ module _ (follow : callsFollow) (rule : rules) (gap : gapRule) (move : moveCalls
   -- of the pushes' state m, which is that of the calls
   Told : State → Type 0
   Told m =
-      (m .locked ≡ true → length (pending m) < 392) × (m .locked ≡ false → length (pending m) < 1152)
+      (m .figures .locked ≡ true → length (pending m) < 392) × (m .figures .locked ≡ false → length (pending m) < 1152)
       × ((x : Input) → (length (bring x m .held) ≤ 1155) × ((k : ℕ) → length (drain k (search (bring x m)) .next .held) ≤ 1155))
-      × (m .clock ≡ searched xs start + 384 * length (handed cs))
-      × (pos (length (stream xs)) ≡ pos (m .clock) +ℤ netSlip m +ℤ pos (length (pending m)))
-      × (m .soft ≡ everSoft xs)
+      × (m .figures .clock ≡ searched xs start + 384 * length (handed cs))
+      × (pos (length (stream xs)) ≡ pos (m .figures .clock) +ℤ netSlip m +ℤ pos (length (pending m)))
+      × (m .figures .soft ≡ everSoft xs)
 
   told : Told (view (stateOf s cs))
   unfolding Told
   told =
       let r = rule xs in
-      let clock : stateAfter xs .clock ≡ searched xs start + 384 * length (handed cs) = r .clock ∙ ap (λ (i : ℕ). searched xs start + 384 * i) (sym many) in
+      let clock : stateAfter xs .figures .clock ≡ searched xs start + 384 * length (handed cs) = r .clock ∙ ap (λ (i : ℕ). searched xs start + 384 * i) (sym many) in
       subst Told (sym led) (r .locked, r .searching, r .held, clock, r .balance, r .soft)
 
   moved : SlippedBy start (view (stateOf s cs)) (movesGot (handed cs))

@@ -81,7 +81,7 @@ smallRoom room = test 2 (ltb (length room) 1296)
 
 -- 2^40 dibits already taken
 abbrev pub streamEnd : State → Test
-streamEnd state = test 3 (leb (2 ^ 40) (state .taken))
+streamEnd state = test 3 (leb (2 ^ 40) (state .figures .taken))
 
 -- lent table not admitted, its length included
 abbrev pub notAdmitted : List ℕ → Test

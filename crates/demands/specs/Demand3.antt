@@ -66,7 +66,7 @@ pub record Exact (bits : List ℕ) (p q k : ℕ) (earlier out : List Got) : Type
 -- the first place from P on where three frames 384 bits apart each show at least two of their three markers. `after` are any calls that follow.
 pub record Searches (s : Synchroniser) (before after : List Call) : Type 0 where
   -- there are such streams: a push of a dibit up to 3, with room for frames, is taken where fewer than 2^40 were
-  pub taken : (x : Input) (room : ℕ) → x .dibit ≤ 3 → 1296 ≤ room → view (stateOf s (before ++ after)) .taken < 2 ^ 40
+  pub taken : (x : Input) (room : ℕ) → x .dibit ≤ 3 → 1296 ≤ room → view (stateOf s (before ++ after)) .figures .taken < 2 ^ 40
       → answerTo room x (view (stateOf s (before ++ after))) ≡ Taken
   -- "No frame goes out before the push that brings bit Q+1151": while at most Q+1151 bits have come, whichever pushes `later` bring Q
   pub silent : (later : List Input) (q : ℕ) → FirstLock (stream (accepted (before ++ after) ++ later)) (placeIn s before) q
@@ -87,9 +87,9 @@ Demand3 = (s : Synchroniser) → New s → (before after : List Call) → Histor
 
 pub record Always (s : Synchroniser) (calls : List Call) : Type 0 where
   -- "After any push fewer than 392 bits are pending when locked,
-  pub locked : view (stateOf s calls) .locked ≡ true → length (pending (view (stateOf s calls))) < 392
+  pub locked : view (stateOf s calls) .figures .locked ≡ true → length (pending (view (stateOf s calls))) < 392
   -- fewer than 1,152 when searching;
-  pub searching : view (stateOf s calls) .locked ≡ false → length (pending (view (stateOf s calls))) < 1152
+  pub searching : view (stateOf s calls) .figures .locked ≡ false → length (pending (view (stateOf s calls))) < 1152
   -- at most 1,155 are held at any instant": once one more push has brought its bits, after its search, and after each of its frames
   pub held : (x : Input) → (length (bring x (view (stateOf s calls)) .held) ≤ 1155)
       × ((n : ℕ) → length (drain n (search (bring x (view (stateOf s calls)))) .next .held) ≤ 1155)
@@ -98,8 +98,8 @@ pub record Always (s : Synchroniser) (calls : List Call) : Type 0 where
   pub offset : (i : ℕ) → i < length (handed calls)
       → frame (handed calls) i .head .offset ≡ total (take (suc i) (between 0 (accepted calls) start)) + 384 * i
   -- "bits pushed equal that clock plus the signed net slip plus bits pending"
-  pub clock : view (stateOf s calls) .clock ≡ searched (accepted calls) start + 384 * length (handed calls)
-  pub balance : pos (length (streamOf calls)) ≡ pos (view (stateOf s calls) .clock) +ℤ netSlip (view (stateOf s calls)) +ℤ pos (length (pending (view (stateOf s calls))))
+  pub clock : view (stateOf s calls) .figures .clock ≡ searched (accepted calls) start + 384 * length (handed calls)
+  pub balance : pos (length (streamOf calls)) ≡ pos (view (stateOf s calls) .figures .clock) +ℤ netSlip (view (stateOf s calls)) +ℤ pos (length (pending (view (stateOf s calls))))
   -- document 02, A3: "the net slip equals the sum of front moves and third-segment shifts of the frames sent"; the slips followed are those that the
   -- moves show, counted at each place; and each move lies in its range
   pub net : netSlip (view (stateOf s calls)) ≡ netOfAll (movesGot (handed calls))
@@ -110,9 +110,9 @@ pub record Always (s : Synchroniser) (calls : List Call) : Type 0 where
   pub made : view (stateOf s calls) ≡ stateAfter (accepted calls)
   pub lock : LockRule (accepted calls) (lockSent (accepted calls) start [])
   -- no call both takes and loses a lock: one more call that hands out a frame and hands back no lock, where a search begins, found a lock
-  pub found : (c : Call) → Meets (stateOf s calls) c → 0 < answerOf c .count → answerOf c .next .numbers .locked ≡ false → stateOf s calls .numbers .locked ≡ true
+  pub found : (c : Call) → Meets (stateOf s calls) c → 0 < answerOf c .count → answerOf c .next .numbers .figures .locked ≡ false → stateOf s calls .numbers .figures .locked ≡ true
   -- the soft mark is never cleared: it is there once a soft push was made
-  pub soft : view (stateOf s calls) .soft ≡ everSoft (accepted calls)
+  pub soft : view (stateOf s calls) .figures .soft ≡ everSoft (accepted calls)
 
 abbrev pub Statements : Type 0
 Statements = (s : Synchroniser) → New s → (calls : List Call) → History s calls → Always s calls

@@ -27,7 +27,7 @@ slipLine h = cond (hasMove (h .moves)) (lineOf (slipText (h .offset) (h .moves .
 
 -- "last line `end FRAMES SLIPS NETSLIP`"
 abbrev pub slipsEnd : State → Line
-slipsEnd m = lineOf (slipsEndText (m .frames) (slips m) (netSlip m))
+slipsEnd m = lineOf (slipsEndText (m .figures .frames) (slips m) (netSlip m))
 
 -- What no line tells has no move, so that the lines add up to the net slip of the last one; and a frame without a move has no line.
 pub record SlipsTold : Type 0 where

@@ -22,11 +22,11 @@ use Rattle.sync_rules.proofs.Taken.{step-taken}
 use Rattle.merge_stretches.specs.Stretches.{calm, atOnce, stretchOf, settledBy}
 use Rattle.merge_stretches.specs.Statements.{Calm, calmRule, Stretch, stretchRule}
 
-takes-it : (x : Input) (m : State) → x .dibit < 4 → m .taken < 2 ^ 40 → answerTo 1296 x m ≡ Taken
+takes-it : (x : Input) (m : State) → x .dibit < 4 → m .figures .taken < 2 ^ 40 → answerTo 1296 x m ≡ Taken
 unfolding answerTo answerBy
 takes-it x m h k =
     sym
-    (cond-no (leb (2 ^ 40) (m .taken)) _ (Refused StreamEnd) Taken refl (lt-leb (2 ^ 40) (m .taken) k)
+    (cond-no (leb (2 ^ 40) (m .figures .taken)) _ (Refused StreamEnd) Taken refl (lt-leb (2 ^ 40) (m .figures .taken) k)
     ∙ cond-no (ltb 1296 1296) _ (Refused FrameRoom) _ refl (le-ltb 1296 1296 (omega arith))
     ∙ cond-no (ltb 3 (x .dibit)) _ (Refused Dibit) _ refl (le-ltb 3 (x .dibit) (omega arith)))
 

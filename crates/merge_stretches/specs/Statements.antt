@@ -14,7 +14,7 @@ use Rattle.merge_stretches.specs.Stretches.{calm, stretchOf}
 pub record Calm (x : Input) (m : State) : Type 0 where
   pub taken : answerTo 1296 x m ≡ Taken
   pub sent : step x m .sent ≡ []
-  pub clock : step x m .next .clock ≡ m .clock
+  pub clock : step x m .next .figures .clock ≡ m .figures .clock
   pub rest : calm m ≤ suc (calm (step x m .next))
 
 -- from any state on

@@ -13,7 +13,7 @@ use Rattle.sync_rules.specs.Pushes.{quiet}
 -- how many dibits can follow of which none searches, sends or is refused: those that are quiet, as far as 2^40 are not passed
 unfoldable pub calm : State → ℕ
 unfolding quiet
-calm m = min (quiet m) (2 ^ 40 - m .taken)
+calm m = min (quiet m) (2 ^ 40 - m .figures .taken)
 
 -- the least of four numbers, or one
 unfoldable pub atOnce : (p q a b : ℕ) → ℕ
@@ -31,4 +31,4 @@ settledBy (suc n) Taken clock = At clock
 settledBy (suc n) (Refused f) clock = Absent
 
 abbrev pub settledOf : FedOut → Clock
-settledOf o = settledBy (o .used) (o .answer) (o .next .clock)
+settledOf o = settledBy (o .used) (o .answer) (o .next .figures .clock)

@@ -41,7 +41,7 @@ fn untaken(taken: u64) -> usize
 fn calm_of(k: Numbers) -> usize
     ensures { λ r. ⌜ ((bits reliabilities : List ℕ) → r ≡ calm (viewOf bits reliabilities k)) ⌝ }
 {
-    least(quiet_of(k), untaken(k.taken))
+    least(quiet_of(k), untaken(k.figures.taken))
 }
 
 // How many dibits of each of two streams are fed at once, of which the first has `one` left and the second `two`.
@@ -54,7 +54,7 @@ pub fn stretch(k: Numbers, l: Numbers, one: usize, two: usize) -> usize
 
 // How far a stream is settled after a feed: a recording that had no dibit, or whose push was refused, has ended.
 pub fn settled_after(d: Into) -> Clock
-    ensures { λ r. ⌜ r ≡ settledBy (d .took) (d .answer) (d .drained .numbers .clock) ⌝ }
+    ensures { λ r. ⌜ r ≡ settledBy (d .took) (d .answer) (d .drained .numbers .figures .clock) ⌝ }
 {
     if d.took == 0 {
         return Clock::Absent;
@@ -63,7 +63,7 @@ pub fn settled_after(d: Into) -> Clock
     let drained = d.drained;
     let numbers = drained.numbers;
     match answer {
-        Push::Taken => Clock::At(numbers.clock),
+        Push::Taken => Clock::At(numbers.figures.clock),
         Push::Refused(_) => Clock::Absent,
     }
 }

@@ -10,6 +10,6 @@ pub record AddsUp (m : Merged) : Type 0 where
   pub first : ReachableIn (m .first)
   pub second : ReachableIn (m .second)
   -- every frame of both streams was taken in, late, double or refused
-  pub frames : view (m .first) .frames + view (m .second) .frames ≡ m .kept + m .late + m .double + m .refused
+  pub frames : view (m .first) .figures .frames + view (m .second) .figures .frames ≡ m .kept + m .late + m .double + m .refused
   -- every frame taken in is in the journal, gave way to the other stream's frame of its position, or was passed over: none is left waiting
   pub kept : m .kept ≡ m .released + m .others + m .passed

@@ -35,24 +35,24 @@ module _ (xs : List Input) (m : State) (h : Reached m) (bits reliabilities room 
   abbrev taken : Clock → Brought
   taken c = record { settled = c; numbers = r .drained .numbers; count = r .drained .count; heads = r .drained .heads }
 
-  took-all : FedInto bits reliabilities room room′ (fed xs m) r → BroughtBy xs m bits reliabilities (taken (settledBy (r .took) (r .answer) (r .drained .numbers .clock)))
+  took-all : FedInto bits reliabilities room room′ (fed xs m) r → BroughtBy xs m bits reliabilities (taken (settledBy (r .took) (r .answer) (r .drained .numbers .figures .clock)))
   took-all f =
       let g : DrainedBy bits reliabilities room room′ 0 3 (record { sent = fed xs m .sent; next = fed xs m .next }) (r .drained .numbers) (r .drained .count) (r .drained .heads) = f .drained in
       record {
         sound = record { steady = g .steady; few = g .few; rings = f .rings; reached = ran-reached (take (fed xs m .used) xs) m h _ (g .next ∙ feed-rules 1296 xs m .next) };
         next = g .next;
-        settled = ap₂ (λ (n : ℕ) (a : Push). settledBy n a (r .drained .numbers .clock)) (f .used) (f .answer) ∙ ap (λ (s : State). settledBy (fed xs m .used) (fed xs m .answer) (s .clock)) (g .next);
+        settled = ap₂ (λ (n : ℕ) (a : Push). settledBy n a (r .drained .numbers .figures .clock)) (f .used) (f .answer) ∙ ap (λ (s : State). settledBy (fed xs m .used) (fed xs m .answer) (s .figures .clock)) (g .next);
         count = g .many;
         three = fed-few 1296 xs m _ (g .many);
         frames = fed-frames 1296 xs m h _ _ (g .next) (g .many);
       }
 
   pub took-as : (zs : List Input) (long : ℕ) → zs ≡ xs → long ≡ 1296 → FedInto bits reliabilities room room′ (fedOf long zs m) r
-      → (c : Clock) → c ≡ settledBy (r .took) (r .answer) (r .drained .numbers .clock) → BroughtBy xs m bits reliabilities (taken c)
+      → (c : Clock) → c ≡ settledBy (r .took) (r .answer) (r .drained .numbers .figures .clock) → BroughtBy xs m bits reliabilities (taken c)
   took-as zs long e l f c k =
       subst (λ (z : Clock). BroughtBy xs m bits reliabilities (taken z)) (sym k)
       (took-all (subst (λ (o : FedOut). FedInto bits reliabilities room room′ o r) (ap₂ (λ (n : ℕ) (ys : List Input). fedOf n ys m) l e) f))
 
 -- a synchroniser's frames are few
-pub frames-few : {bits reliabilities : List ℕ} {k : Numbers} → Reachable bits reliabilities k → k .frames ≤ mostOffset
+pub frames-few : {bits reliabilities : List ℕ} {k : Numbers} → Reachable bits reliabilities k → k .figures .frames ≤ mostOffset
 frames-few h = omega (arith, h .steady .sound .grid, h .steady .sound .tide, h .steady .sound .taken-few)

@@ -62,7 +62,7 @@ module _ (xs : List Input) (i : ℕ) (n : Next xs i) (m : State) (c : Calm (n .d
   further : (k : ℕ) → fed (take (suc k) (drop i xs)) m ≡ oneMore (fed (take k (drop (suc i) xs)) after)
   further k = ap (λ (l : List Input). fed (take (suc k) l) m) (n .here) ∙ fed-silent 1296 (n .dibit) (take k (drop (suc i) xs)) m (c .taken) (c .sent)
 
-  alone-settled : settledOf (fed (take 1 (drop i xs)) m) ≡ At (m .clock)
+  alone-settled : settledOf (fed (take 1 (drop i xs)) m) ≡ At (m .figures .clock)
   unfolding oneMore fedOf settledBy
   alone-settled = ap settledOf alone ∙ ap At (c .clock)
 
@@ -99,19 +99,19 @@ module _ (xs ys : List Input) where
   abbrev fedBoth : ℕ → ℕ → Standing → Standing
   fedBoth n i a = record { first = fed (take n (drop i xs)) (a .first) .next; second = fed (take n (drop i ys)) (a .second) .next; work = a .work }
 
-  turn : (i : ℕ) (a : Standing) → Idle (At (a .first .clock)) (At (a .second .clock)) false (a .work .merger) → (x : Next xs i) (y : Next ys i) (c : Calm (x .dibit) (a .first)) (f : Calm (y .dibit) (a .second))
+  turn : (i : ℕ) (a : Standing) → Idle (At (a .first .figures .clock)) (At (a .second .figures .clock)) false (a .work .merger) → (x : Next xs i) (y : Next ys i) (c : Calm (x .dibit) (a .first)) (f : Calm (y .dibit) (a .second))
       → Turn (take 1 (drop i xs)) (take 1 (drop i ys)) a (record { first = after xs i x (a .first) c; second = after ys i y (a .second) f; work = a .work })
   turn i a o x y c f =
       record {
         first = alone-next xs i x (a .first) c;
         second = alone-next ys i y (a .second) f;
         told = omega (arith, alone-sent xs i x (a .first) c, alone-sent ys i y (a .second) f);
-        idle = subst (λ (z : Clock). Idle (settledOf (fed (take 1 (drop i xs)) (a .first))) z false (a .work .merger)) (sym (alone-settled ys i y (a .second) f)) (subst (λ (z : Clock). Idle z (At (a .second .clock)) false (a .work .merger)) (sym (alone-settled xs i x (a .first) c)) o);
+        idle = subst (λ (z : Clock). Idle (settledOf (fed (take 1 (drop i xs)) (a .first))) z false (a .work .merger)) (sym (alone-settled ys i y (a .second) f)) (subst (λ (z : Clock). Idle z (At (a .second .figures .clock)) false (a .work .merger)) (sym (alone-settled xs i x (a .first) c)) o);
         still = λ g h k. refl;
       }
 
   module _ (d : Dibits xs) (e : Dibits ys) (s : Standing) where
-    pub walk-calm : (n i : ℕ) (a : Standing) → Walk i xs ys s a → Idle (At (a .first .clock)) (At (a .second .clock)) false (a .work .merger)
+    pub walk-calm : (n i : ℕ) (a : Standing) → Walk i xs ys s a → Idle (At (a .first .figures .clock)) (At (a .second .figures .clock)) false (a .work .merger)
         → i + n ≤ length xs → i + n ≤ length ys → n ≤ calm (a .first) → n ≤ calm (a .second) → Walk (i + n) xs ys s (fedBoth n i a)
     unfolding fedOf
     walk-calm zero i a w o h k p q = subst (λ (j : ℕ). Walk j xs ys s (fedBoth 0 i a)) (omega arith) w
@@ -129,7 +129,7 @@ module _ (xs ys : List Input) where
 pub record Whole (o : FedOut) (m : State) : Type 0 where
   pub answer : o .answer ≡ Taken
   pub sent : o .sent ≡ []
-  pub clock : o .next .clock ≡ m .clock
+  pub clock : o .next .figures .clock ≡ m .figures .clock
 
 whole : (xs : List Input) → Dibits xs → (n i : ℕ) (m : State) → i + n ≤ length xs → n ≤ calm m → Whole (fed (take n (drop i xs)) m) m
 unfolding fedOf
@@ -140,10 +140,10 @@ whole xs d (suc n) i m h p =
     let r = whole xs d n (suc i) (after xs i x m c) (omega arith) (omega (arith, c .rest)) in
     subst (λ (o : FedOut). Whole o m) (sym (further xs i x m c n)) (one-before (fed (take n (drop (suc i) xs)) (after xs i x m c)) r (c .clock))
   where
-    one-before : {a : State} (o : FedOut) → Whole o a → a .clock ≡ m .clock → Whole (oneMore o) m
+    one-before : {a : State} (o : FedOut) → Whole o a → a .figures .clock ≡ m .figures .clock → Whole (oneMore o) m
     one-before o r e = record { answer = r .answer; sent = r .sent; clock = r .clock ∙ e }
 
-whole-settled : (xs : List Input) → Dibits xs → (n i : ℕ) (m : State) → 1 ≤ n → i + n ≤ length xs → n ≤ calm m → settledOf (fed (take n (drop i xs)) m) ≡ At (m .clock)
+whole-settled : (xs : List Input) → Dibits xs → (n i : ℕ) (m : State) → 1 ≤ n → i + n ≤ length xs → n ≤ calm m → settledOf (fed (take n (drop i xs)) m) ≡ At (m .figures .clock)
 unfolding oneMore settledBy
 whole-settled xs d zero i m l h p = absurd (omega arith)
 whole-settled xs d (suc n) i m l h p =
@@ -152,12 +152,12 @@ whole-settled xs d (suc n) i m l h p =
     let r = whole xs d n (suc i) (after xs i x m c) (omega arith) (omega (arith, c .rest)) in
     ap settledOf (further xs i x m c n) ∙ settled-more (fed (take n (drop (suc i) xs)) (after xs i x m c)) (r .answer) ∙ ap At (r .clock ∙ c .clock)
   where
-    settled-more : (o : FedOut) → o .answer ≡ Taken → settledOf (oneMore o) ≡ At (o .next .clock)
-    settled-more o e = ap (λ (a : Push). settledBy (suc (o .used)) a (o .next .clock)) e
+    settled-more : (o : FedOut) → o .answer ≡ Taken → settledOf (oneMore o) ≡ At (o .next .figures .clock)
+    settled-more o e = ap (λ (a : Push). settledBy (suc (o .used)) a (o .next .figures .clock)) e
 
 -- ---- one round of the loop
 module _ (xs ys : List Input) (d : Dibits xs) (e : Dibits ys) (s : Standing) where
-  by-stretch : (i n : ℕ) (a b : Standing) → Walk i xs ys s a → Idle (At (a .first .clock)) (At (a .second .clock)) false (a .work .merger)
+  by-stretch : (i n : ℕ) (a b : Standing) → Walk i xs ys s a → Idle (At (a .first .figures .clock)) (At (a .second .figures .clock)) false (a .work .merger)
       → 1 ≤ n → i + n ≤ length xs → i + n ≤ length ys → n ≤ calm (a .first) → n ≤ calm (a .second) → Turn (take n (drop i xs)) (take n (drop i ys)) a b → Walk (i + n) xs ys s b
   by-stretch i n a b w o l h k p q t =
       subst (λ (z : Standing). Walk (i + n) xs ys s z) (sym same) (walk-calm xs ys d e s n i a w o h k p q)
@@ -165,7 +165,7 @@ module _ (xs ys : List Input) (d : Dibits xs) (e : Dibits ys) (s : Standing) whe
       work : b .work ≡ a .work
       work = t .still (whole xs d n i (a .first) h p .sent) (whole ys e n i (a .second) k q .sent)
           (subst (λ (z : Clock). Idle (settledOf (fed (take n (drop i xs)) (a .first))) z false (a .work .merger)) (sym (whole-settled ys e n i (a .second) l k q))
-          (subst (λ (z : Clock). Idle z (At (a .second .clock)) false (a .work .merger)) (sym (whole-settled xs d n i (a .first) l h p)) o))
+          (subst (λ (z : Clock). Idle z (At (a .second .figures .clock)) false (a .work .merger)) (sym (whole-settled xs d n i (a .first) l h p)) o))
 
       same : b ≡ fedBoth xs ys n i a
       same = ap₂ (λ (u v : State). record { first = u; second = v; work = b .work }) (t .first) (t .second) ∙ ap (λ (v : Work). record { first = fed (take n (drop i xs)) (a .first) .next; second = fed (take n (drop i ys)) (a .second) .next; work = v }) work
@@ -174,7 +174,7 @@ module _ (xs ys : List Input) (d : Dibits xs) (e : Dibits ys) (s : Standing) whe
   by-one i n a b w h t =
       subst (λ (k : ℕ). Walk (i + k) xs ys s b) (sym h) (walk-one xs ys i s a b w (subst (λ (k : ℕ). Turn (take k (drop i xs)) (take k (drop i ys)) a b) h t))
 
-  pub walk-on : (i n : ℕ) (a b : Standing) → Walk i xs ys s a → Idle (At (a .first .clock)) (At (a .second .clock)) false (a .work .merger)
+  pub walk-on : (i n : ℕ) (a b : Standing) → Walk i xs ys s a → Idle (At (a .first .figures .clock)) (At (a .second .figures .clock)) false (a .work .merger)
       → Stretch (a .first) (a .second) (length xs - i) (length ys - i) n → Turn (take n (drop i xs)) (take n (drop i ys)) a b → Walk (i + n) xs ys s b
   walk-on i n a b w o r t =
       ⊎-elim (λ h. by-one i n a b w h t)
@@ -241,7 +241,7 @@ module _ (xs ys : List Input) (d : Dibits xs) (e : Dibits ys) (s : Standing) (i 
             second = U .sound;
             work = acc;
             told = omega (arith, told, P .told, T .frames, U .frames);
-            idle = same-clocks (v .merger) (sym (ap (λ (m : State). m .clock) (T .next))) (sym (ap (λ (m : State). m .clock) (U .next))) (idle-at-clocks _ _ _ _ _ _ (v .merger) (settled v idle));
+            idle = same-clocks (v .merger) (sym (ap (λ (m : State). m .figures .clock) (T .next))) (sym (ap (λ (m : State). m .figures .clock) (U .next))) (idle-at-clocks _ _ _ _ _ _ (v .merger) (settled v idle));
           }
 
 -- ---- the rings put back

@@ -45,7 +45,7 @@ pub record BroughtBy (xs : List Input) (m : State) (bits reliabilities : List �
   pub settled : t .settled ≡ settledOf (fed xs m)
   pub count : t .count ≡ length (fed xs m .sent)
   pub three : t .count ≤ 3
-  pub frames : t .numbers .frames ≡ m .frames + t .count
+  pub frames : t .numbers .figures .frames ≡ m .figures .frames + t .count
 
 -- no frame has come, and nothing is ready
 abbrev pub NothingToDo : Brought → Brought → Merger → Type 0
@@ -59,8 +59,8 @@ pub record Paired (bits reliabilities : List ℕ) (k : Numbers) (others their : 
   pub first : Reachable bits reliabilities k
   pub second : Reachable others their l
   pub work : Accounted w
-  pub told : toldOf (w .answered) ≡ k .frames + l .frames
-  pub idle : Idle (At (k .clock)) (At (l .clock)) false (w .merger)
+  pub told : toldOf (w .answered) ≡ k .figures .frames + l .figures .frames
+  pub idle : Idle (At (k .figures .clock)) (At (l .figures .clock)) false (w .merger)
 
 abbrev pub PairedIn : Recordings → Type 0
 PairedIn r = Paired (r .first .bits) (r .first .reliabilities) (r .first .numbers) (r .second .bits) (r .second .reliabilities) (r .second .numbers) (r .work)

@@ -44,11 +44,11 @@ reached-start m e = record { pushes = []; there = e }
 pub reached-by : {s : Synchroniser} {count : ℕ} {heads : List Head} {room : List ℕ} → LastSent s count heads room → Reached (view s)
 reached-by w = record { pushes = w .pushes; there = w .there }
 
-pub none-yet : (m : State) → m ≡ start → m .frames ≡ 0
-none-yet m e = ap (λ (s : State). s .frames) e
+pub none-yet : (m : State) → m ≡ start → m .figures .frames ≡ 0
+none-yet m e = ap (λ (s : State). s .figures .frames) e
 
 -- the frames that pushes from the start sent are the frames counted
-counted : (xs : List Input) → stateAfter xs .frames ≡ length (run xs start .sent)
+counted : (xs : List Input) → stateAfter xs .figures .frames ≡ length (run xs start .sent)
 unfolding sentBy run
 counted xs = all-rules xs .pushed .2
 
@@ -60,10 +60,10 @@ module _ (made : List Input) (m : State) (h : Reached m) where
   pub ran-reached : (n : State) → n ≡ run made m .next → Reached n
   ran-reached n e = record { pushes = h .pushes ++ made; there = e ∙ ran-there }
 
-  pub ran-frames : (n : State) (count : ℕ) → n ≡ run made m .next → count ≡ length (run made m .sent) → n .frames ≡ m .frames + count
+  pub ran-frames : (n : State) (count : ℕ) → n ≡ run made m .next → count ≡ length (run made m .sent) → n .figures .frames ≡ m .figures .frames + count
   ran-frames n count e k =
-      let before : m .frames ≡ length (run (h .pushes) start .sent) = ap (λ (s : State). s .frames) (h .there) ∙ counted (h .pushes) in
-      let after : n .frames ≡ length (run (h .pushes ++ made) start .sent) = ap (λ (s : State). s .frames) (e ∙ ran-there) ∙ counted (h .pushes ++ made) in
+      let before : m .figures .frames ≡ length (run (h .pushes) start .sent) = ap (λ (s : State). s .figures .frames) (h .there) ∙ counted (h .pushes) in
+      let after : n .figures .frames ≡ length (run (h .pushes ++ made) start .sent) = ap (λ (s : State). s .figures .frames) (e ∙ ran-there) ∙ counted (h .pushes ++ made) in
       let both : length (run (h .pushes ++ made) start .sent) ≡ length (run (h .pushes) start .sent) + length (run made (stateAfter (h .pushes)) .sent)
       = ap length (run-sent (h .pushes) made start) ∙ length-append (run (h .pushes) start .sent) (run made (stateAfter (h .pushes)) .sent) in
       let sent : length (run made m .sent) ≡ length (run made (stateAfter (h .pushes)) .sent) = ap (λ (s : State). length (run made s .sent)) (h .there) in
@@ -71,7 +71,7 @@ module _ (made : List Input) (m : State) (h : Reached m) where
 
 -- by a feed
 module _ (room : ℕ) (xs : List Input) (m : State) (h : Reached m) where
-  pub fed-frames : (n : State) (count : ℕ) → n ≡ fedOf room xs m .next → count ≡ length (fedOf room xs m .sent) → n .frames ≡ m .frames + count
+  pub fed-frames : (n : State) (count : ℕ) → n ≡ fedOf room xs m .next → count ≡ length (fedOf room xs m .sent) → n .figures .frames ≡ m .figures .frames + count
   fed-frames n count e k = ran-frames (take (fedOf room xs m .used) xs) m h n count (e ∙ feed-rules room xs m .next) (k ∙ ap length (feed-rules room xs m .sent))
 
 -- by one push, made or refused
@@ -81,7 +81,7 @@ module _ (x : Input) (m : State) (h : Reached m) where
   pushed-reached Taken n e = ran-reached (x ∷ []) m h n e
   pushed-reached (Refused f) n e = ran-reached [] m h n e
 
-  pub pushed-frames : (a : Push) (n : State) (count : ℕ) → n ≡ pushOf a x m .next → count ≡ length (pushOf a x m .sent) → n .frames ≡ m .frames + count
+  pub pushed-frames : (a : Push) (n : State) (count : ℕ) → n ≡ pushOf a x m .next → count ≡ length (pushOf a x m .sent) → n .figures .frames ≡ m .figures .frames + count
   unfolding pushOf run
   pushed-frames Taken n count e k = ran-frames (x ∷ []) m h n count e (k ∙ ap length (sym (append-nil (step x m .sent))))
   pushed-frames (Refused f) n count e k = ran-frames [] m h n count e k
@@ -187,13 +187,13 @@ slots-length (h ∷ hs) room j = ap suc (slots-length hs room (suc j))
 
 -- frame k of the last feed is the next of all
 module _ (s : Synchroniser) (count : ℕ) (heads : List Head) (room : List ℕ) (w : LastSent s count heads room)
-    (n k : ℕ) (waits : k < count) (balance : n + count ≡ k + view s .frames) where
+    (n k : ℕ) (waits : k < count) (balance : n + count ≡ k + view s .figures .frames) where
   abbrev all : List Frame
   all = sentBy [] (w .pushes)
 
-  all-many : length all ≡ view s .frames
+  all-many : length all ≡ view s .figures .frames
   unfolding sentBy run
-  all-many = sym (ap (λ (m : State). m .frames) (w .there) ∙ counted (w .pushes))
+  all-many = sym (ap (λ (m : State). m .figures .frames) (w .there) ∙ counted (w .pushes))
 
   parts : length all ≡ length (w .earlier) + count
   parts = omega (arith, shown-length all, ap length (w .last), length-append (w .earlier) (slots (take count heads) room 0), slots-length (take count heads) room 0, length-take count heads, w .few)
@@ -217,7 +217,7 @@ headIn (next.Frame h) = h
 headIn next.NoFrame = noHead
 
 pub given-next : {s : Synchroniser} {count : ℕ} {heads : List Head} {room : List ℕ} {n k : ℕ} {envelope : List ℕ} {h : Head} → LastSent s count heads room → k < count
-    → n + count ≡ k + view s .frames → envelope ≡ take 48 (drop (432 * k) room) → h ≡ getD heads k noHead → NextOf (view s) n (next.Frame h) envelope
+    → n + count ≡ k + view s .figures .frames → envelope ≡ take 48 (drop (432 * k) room) → h ≡ getD heads k noHead → NextOf (view s) n (next.Frame h) envelope
 unfolding headIn
 given-next {s} {count} {heads} {room} {n} {k} w waits balance same head =
     record {

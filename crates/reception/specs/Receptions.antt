@@ -41,7 +41,7 @@ pub record SoundReception (r : Reception) : Type 0 where
   -- every frame that went out was given or waits: none is given twice, none is left out
   pub waiting : r .given ≤ r .count
   pub three : r .count ≤ 3
-  pub balance : r .frames + r .count ≡ r .given + view (r .sync) .frames
+  pub balance : r .frames + r .count ≡ r .given + view (r .sync) .figures .frames
 
 -- how many frames an answer gives
 abbrev pub gives : Next → ℕ
@@ -66,5 +66,5 @@ pub record NextOf (m : State) (n : ℕ) (next : Next) (envelope : List ℕ) : Ty
 pub record Told (h : Heard) : Type 0 where
   pub valid : ValidSynchroniser (h .sync)
   pub reached : Reached (view (h .sync))
-  pub few : h .frames ≤ view (h .sync) .frames
-  pub all : h .whole ≡ true → h .frames ≡ view (h .sync) .frames
+  pub few : h .frames ≤ view (h .sync) .figures .frames
+  pub all : h .whole ≡ true → h .frames ≡ view (h .sync) .figures .frames

@@ -18,15 +18,15 @@ use Rattle.replay_pushes.specs.declared.Synchronised.{Synchronised}
 
 -- "locked (1), slips (4), net slip (1 where it is below zero, and its amount in 4), frames (4)"
 abbrev pub countBytes : State → List ℕ
-countBytes m = flagByte (m .locked) ∷ (lastBytes 4 (slips m) ++ (signedBytes 4 (netSlip m) ++ lastBytes 4 (m .frames)))
+countBytes m = flagByte (m .figures .locked) ∷ (lastBytes 4 (slips m) ++ (signedBytes 4 (netSlip m) ++ lastBytes 4 (m .figures .frames)))
 
 -- "synchronised frames (4), pending bits (2), dibits taken (4), settled offset (8)"
 abbrev pub figureBytes : State → List ℕ
-figureBytes m = countBytes m ++ (lastBytes 4 (m .synchronised) ++ (lastBytes 2 (length (pending m)) ++ (lastBytes 4 (m .taken) ++ lastBytes 8 (m .clock))))
+figureBytes m = countBytes m ++ (lastBytes 4 (m .figures .synchronised) ++ (lastBytes 2 (length (pending m)) ++ (lastBytes 4 (m .figures .taken) ++ lastBytes 8 (m .figures .clock))))
 
 -- the status; where it is 0, the frames, of the room after the call, and the figures of the state after it
 abbrev pub pushedBytes : Push → ℕ → List Head → List ℕ → State → List ℕ
-pushedBytes Taken count heads room m = 0 ∷ (framesBytes count heads (m .soft) room ++ figureBytes m)
+pushedBytes Taken count heads room m = 0 ∷ (framesBytes count heads (m .figures .soft) room ++ figureBytes m)
 pushedBytes (Refused r) count heads room m = numberOf r ∷ []
 
 -- an answer of the synchroniser put from a place on, and its next state handed on

@@ -53,7 +53,7 @@ pub fn put_pushed(out: &mut [u8], to: usize, p: Pushed, room: &[u8]) -> Synchron
     match answer {
         Push::Taken => {
             let a = put(&mut *out, to, 0);
-            let b = put_frames(&mut *out, a, p.count, heads, room, numbers.soft);
+            let b = put_frames(&mut *out, a, p.count, heads, room, numbers.figures.soft);
             Synchronised {
                 size: put_figures(out, b, sync),
                 sync,

@@ -31,12 +31,12 @@ module _ (s : Synchroniser) (v : ValidSynchroniser s) (long : length (s .bits) �
   lends = (v .steady, (v .few, record { long = long; as-long = as-long; binary = v .binary }))
 
   -- the two bits of a push that is taken
-  pub brings-in : (x : Given) (room : ℕ) (a : Push) (e : a ≡ answerBy room (x .dibit) (s .numbers .taken)) (h : takes a ≡ 0 → ⊥) (bits reliabilities : List ℕ)
+  pub brings-in : (x : Given) (room : ℕ) (a : Push) (e : a ≡ answerBy room (x .dibit) (s .numbers .figures .taken)) (h : takes a ≡ 0 → ⊥) (bits reliabilities : List ℕ)
       → bits ≡ newBits (s .bits) (s .reliabilities) (s .numbers) long as-long (v .steady) (v .few .1) (taking room _ _ a e h .early) (inputOf x)
       → reliabilities ≡ newRels (s .bits) (s .reliabilities) (s .numbers) long as-long (v .steady) (v .few .1) (taking room _ _ a e h .early) (inputOf x)
       → (one : Numbers) → one ≡ appendedTo (s .numbers) (x .soft) → Brought (s .bits) (s .reliabilities) bits reliabilities (s .numbers) (inputOf x) one
   brings-in x room a e h bits reliabilities eb er one eo =
-      let t = taking room (x .dibit) (s .numbers .taken) a e h in
+      let t = taking room (x .dibit) (s .numbers .figures .taken) a e h in
       brings (s .bits) (s .reliabilities) (s .numbers) long as-long (v .steady) (v .few .1) (t .early) (inputOf x) bits reliabilities eb er one eo (v .binary) (omega (arith, t .good))
 
 -- ---- what it hands back

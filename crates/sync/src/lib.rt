@@ -15,6 +15,7 @@ ghost use Rattle.sync_rules.specs.Pushes.{quiet};
 ghost use Rattle.sync_rules.specs.Demand.{demand3};
 ghost use Rattle.sync_rules.specs.Statements.{rules};
 use sync_rules::Head;
+use sync_rules::StreamFigures;
 use sync_steps::Drained;
 use sync_steps::Given;
 use sync_steps::Into;
@@ -59,10 +60,7 @@ impl Synchroniser {
         ensures { λ r. ⌜ ValidSynchroniser r ⌝ }
         ensures view { λ r. ⌜ view r ≡ start ⌝ }
     {
-        let numbers = Numbers {
-            first: 0,
-            restorable: 0,
-            pending: 0,
+        let figures = StreamFigures {
             taken: 0,
             clock: 0,
             later: 0,
@@ -72,6 +70,12 @@ impl Synchroniser {
             failures: 0,
             locked: false,
             soft: false,
+        };
+        let numbers = Numbers {
+            first: 0,
+            restorable: 0,
+            pending: 0,
+            figures,
         };
         Synchroniser {
             bits: [0u8; 1155],
@@ -163,10 +167,10 @@ impl Synchroniser {
 
     // Whether a lock is held.
     pub fn locked(self) -> bool
-        ensures { λ r. ⌜ r ≡ view self .locked ⌝ }
+        ensures { λ r. ⌜ r ≡ view self .figures .locked ⌝ }
     {
         let n = self.numbers;
-        n.locked
+        n.figures.locked
     }
 
     // Slips followed.
@@ -175,7 +179,7 @@ impl Synchroniser {
         ensures { λ r. ⌜ r ≡ slips (view self) ⌝ }
     {
         let n = self.numbers;
-        n.later + n.earlier
+        n.figures.later + n.figures.earlier
     }
 
     // The signed net slip: two bits for each slip to a later symbol, less two for each to an earlier one.
@@ -184,23 +188,23 @@ impl Synchroniser {
         ensures { λ r. ⌜ r ≡ netSlip (view self) ⌝ }
     {
         let n = self.numbers;
-        difference(2 * n.later, 2 * n.earlier)
+        difference(2 * n.figures.later, 2 * n.figures.earlier)
     }
 
     // Frames sent.
     pub fn frames(self) -> u64
-        ensures { λ r. ⌜ r ≡ view self .frames ⌝ }
+        ensures { λ r. ⌜ r ≡ view self .figures .frames ⌝ }
     {
         let n = self.numbers;
-        n.frames
+        n.figures.frames
     }
 
     // Those of them that showed two markers.
     pub fn synchronised_frames(self) -> u64
-        ensures { λ r. ⌜ r ≡ view self .synchronised ⌝ }
+        ensures { λ r. ⌜ r ≡ view self .figures .synchronised ⌝ }
     {
         let n = self.numbers;
-        n.synchronised
+        n.figures.synchronised
     }
 
     // Bits pending.
@@ -213,18 +217,18 @@ impl Synchroniser {
 
     // Dibits taken.
     pub fn dibits_taken(self) -> u64
-        ensures { λ r. ⌜ r ≡ view self .taken ⌝ }
+        ensures { λ r. ⌜ r ≡ view self .figures .taken ⌝ }
     {
         let n = self.numbers;
-        n.taken
+        n.figures.taken
     }
 
     // The offset below which no further frame goes out.
     pub fn settled(self) -> u64
-        ensures { λ r. ⌜ r ≡ view self .clock ⌝ }
+        ensures { λ r. ⌜ r ≡ view self .figures .clock ⌝ }
     {
         let n = self.numbers;
-        n.clock
+        n.figures.clock
     }
 
     // The end of the stream: the settled offset and the bits pending behind it.
@@ -233,7 +237,7 @@ impl Synchroniser {
         ensures { λ r. ⌜ r ≡ streamEnd (view self) ⌝ }
     {
         let n = self.numbers;
-        n.clock + n.pending as u64
+        n.figures.clock + n.pending as u64
     }
 
     // How many dibits can be pushed or fed before one searches or sends: until then no frame goes out and the settled offset stays.
@@ -298,7 +302,7 @@ fn one_push(s: Synchroniser, x: Given, room: &mut [u8]) -> Pushed
     ensures { λ r. ⌜ PushedBy (now (room .entry)) (now (room .exit)) s (inputOf x) r ⌝ }
 {
     let k = s.numbers;
-    let answer = answer_to(k.taken, x.dibit, room.len());
+    let answer = answer_to(k.figures.taken, x.dibit, room.len());
     let took = made(answer);
     let mut next = s;
     if took == 0 {

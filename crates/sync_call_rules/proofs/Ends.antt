@@ -39,6 +39,6 @@ quiet-calls s v cs h k =
     let q = quiet-rule (view s) .still (accepted cs) k in
     record {
       handed = f .sent ∙ ap shownAs (q .sent);
-      clock = ap (λ (z : State). z .clock) (f .next) ∙ q .clock;
-      locked = ap (λ (z : State). z .locked) (f .next) ∙ q .locked;
+      clock = ap (λ (z : State). z .figures .clock) (f .next) ∙ q .clock;
+      locked = ap (λ (z : State). z .figures .locked) (f .next) ∙ q .locked;
     }

@@ -104,7 +104,7 @@ taken-fits : (room : ℕ) (x : Input) (m : State) → answerTo room x m ≡ Take
 unfolding answerTo takes
 taken-fits room x m e = go (ltb 3 (x .dibit)) (ltb room 1296) refl e
   where
-    go : (a b : Bool) → ltb room 1296 ≡ b → cond a (Refused Dibit) (cond b (Refused FrameRoom) (cond (leb (2 ^ 40) (m .taken)) (Refused StreamEnd) Taken)) ≡ Taken → 1296 ≤ room
+    go : (a b : Bool) → ltb room 1296 ≡ b → cond a (Refused Dibit) (cond b (Refused FrameRoom) (cond (leb (2 ^ 40) (m .figures .taken)) (Refused StreamEnd) Taken)) ≡ Taken → 1296 ≤ room
     go true b eb w = absurd (omega (arith, ap takes w))
     go false true eb w = absurd (omega (arith, ap takes w))
     go false false eb w = ltb-false room 1296 eb
@@ -268,11 +268,11 @@ shaped A B d =
     }
 
 -- a push that sends a frame and ends with no lock has ended a lock
-ends-lock : (x : Input) (m : State) → 0 < length (step x m .sent) → step x m .next .locked ≡ false → Loses x m
+ends-lock : (x : Input) (m : State) → 0 < length (step x m .sent) → step x m .next .figures .locked ≡ false → Loses x m
 unfolding Loses step
-ends-lock x m h w = (go (search (bring x m) .locked) refl, w)
+ends-lock x m h w = (go (search (bring x m) .figures .locked) refl, w)
   where
-    go : (b : Bool) → search (bring x m) .locked ≡ b → search (bring x m) .locked ≡ true
+    go : (b : Bool) → search (bring x m) .figures .locked ≡ b → search (bring x m) .figures .locked ≡ true
     go true e = e
     go false e = absurd (zero-not (length (drain 3 (search (bring x m)) .sent)) h (ap (λ (o : Out). length (o .sent)) (no-lock 3 (search (bring x m)) e)))
 
@@ -283,14 +283,14 @@ record Ends (s : Synchroniser) (c : Call) : Type 0 where
   made : madeBy c ≡ earlier ++ (last ∷ [])
   loses : Loses last (run earlier (view s) .next)
 
-taken-ends : (s : Synchroniser) (x : Input) (room left : List ℕ) (r : Pushed) → 0 < r .count → r .next .numbers .locked ≡ false → (a : Push) → r .answer ≡ a
+taken-ends : (s : Synchroniser) (x : Input) (room left : List ℕ) (r : Pushed) → 0 < r .count → r .next .numbers .figures .locked ≡ false → (a : Push) → r .answer ≡ a
     → r .count ≡ length (pushOf a x (view s) .sent) → view (r .next) ≡ pushOf a x (view s) .next → Ends s (pushing x room left r)
 unfolding madeBy made run pushOf
 taken-ends s x room left r n w Taken e count next =
-    record { earlier = []; last = x; made = ap (λ (z : Push). made z x) e; loses = ends-lock x (view s) (omega (arith, count)) (sym (ap (λ (z : State). z .locked) next) ∙ w) }
+    record { earlier = []; last = x; made = ap (λ (z : Push). made z x) e; loses = ends-lock x (view s) (omega (arith, count)) (sym (ap (λ (z : State). z .figures .locked) next) ∙ w) }
 taken-ends s x room left r n w (Refused f) e count next = absurd (zero-not _ n count)
 
-ends-push : (s : Synchroniser) (x : Input) (room left : List ℕ) (r : Pushed) → PushedBy room left s x r → 0 < r .count → r .next .numbers .locked ≡ false → Ends s (pushing x room left r)
+ends-push : (s : Synchroniser) (x : Input) (room left : List ℕ) (r : Pushed) → PushedBy room left s x r → 0 < r .count → r .next .numbers .figures .locked ≡ false → Ends s (pushing x room left r)
 unfolding madeBy run
 ends-push s x room left r p n w = go (r .answer) refl
   where
@@ -318,7 +318,7 @@ run-last : (ys : List Input) (x : Input) (m : State) → (run (ys ++ (x ∷ []))
 unfolding run
 run-last ys x m = (run-next ys (x ∷ []) m, run-sent ys (x ∷ []) m ∙ ap (λ (l : List Frame). run ys m .sent ++ l) (append-nil (step x (run ys m .next) .sent)))
 
-ends-feed : (s : Synchroniser) (xs : List Input) (room left : List ℕ) (f : Fed) → FedBy room left (fedOf (length room) xs (view s)) f → 0 < f .pushed .count → f .pushed .next .numbers .locked ≡ false → Ends s (feeding xs room left f)
+ends-feed : (s : Synchroniser) (xs : List Input) (room left : List ℕ) (f : Fed) → FedBy room left (fedOf (length room) xs (view s)) f → 0 < f .pushed .count → f .pushed .next .numbers .figures .locked ≡ false → Ends s (feeding xs room left f)
 unfolding madeBy
 ends-feed s xs room left f b n w = go (fedOf (length room) xs (view s) .used) refl
   where
@@ -339,15 +339,15 @@ ends-feed s xs room left f b n w = go (fedOf (length room) xs (view s) .used) re
           earlier = ys;
           last = x;
           made = ap (λ (i : ℕ). take i xs) (b .used) ∙ q;
-          loses = ends-lock x (run ys (view s) .next) (omega (arith, b .many, ap length st)) (sym (ap (λ (z : State). z .locked) nx) ∙ w);
+          loses = ends-lock x (run ys (view s) .next) (omega (arith, b .many, ap length st)) (sym (ap (λ (z : State). z .figures .locked) nx) ∙ w);
         }
 
-ends : (s : Synchroniser) (c : Call) → Meets s c → 0 < answerOf c .count → answerOf c .next .numbers .locked ≡ false → Ends s c
+ends : (s : Synchroniser) (c : Call) → Meets s c → 0 < answerOf c .count → answerOf c .next .numbers .figures .locked ≡ false → Ends s c
 unfolding Meets answerOf
 ends s (pushing x room left r) a n w = ends-push s x room left r a n w
 ends s (feeding xs room left f) a n w = ends-feed s xs room left f a n w
 
-begins-lost : (s : Synchroniser) → ValidSynchroniser s → view s ≡ start → (cs : List Call) (c : Call) → History s (cs ++ (c ∷ [])) → 0 < answerOf c .count → answerOf c .next .numbers .locked ≡ false → Begins (accepted (cs ++ (c ∷ [])))
+begins-lost : (s : Synchroniser) → ValidSynchroniser s → view s ≡ start → (cs : List Call) (c : Call) → History s (cs ++ (c ∷ [])) → 0 < answerOf c .count → answerOf c .next .numbers .figures .locked ≡ false → Begins (accepted (cs ++ (c ∷ [])))
 unfolding Begins History accepted
 begins-lost s v e cs c h n w =
     let H = history-left cs (c ∷ []) s h in

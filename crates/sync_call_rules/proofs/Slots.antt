@@ -28,7 +28,7 @@ cut-few xs p q =
 
 frame-few : (v : Move) (m : State) (p q : ℕ) → length (sendAt v m p q .frame .reliabilities) ≤ 384
 unfolding sendAt frameAt
-frame-few v m p q = cond-cases (λ (l : List ℕ). length l ≤ 384) (m .soft) (cut (drop (m .restorable) (m .reliabilities)) p q) [] (λ t. cut-few (drop (m .restorable) (m .reliabilities)) p q) (λ w. omega arith)
+frame-few v m p q = cond-cases (λ (l : List ℕ). length l ≤ 384) (m .figures .soft) (cut (drop (m .restorable) (m .reliabilities)) p q) [] (λ t. cut-few (drop (m .restorable) (m .reliabilities)) p q) (λ w. omega arith)
 
 shifted-few : (v : Move) (m : State) → length (sendShifted v m .frame .reliabilities) ≤ 384
 unfolding sendShifted

@@ -38,25 +38,25 @@ no-frames-marked : (soft : Bool) → Marked soft []
 unfolding Marked
 no-frames-marked soft = tt
 
-push-marked : (a : Push) (x : Input) (m : State) (ys : List Input) → m ≡ stateAfter ys → Marked (pushOf a x m .next .soft) (pushOf a x m .sent)
+push-marked : (a : Push) (x : Input) (m : State) (ys : List Input) → m ≡ stateAfter ys → Marked (pushOf a x m .next .figures .soft) (pushOf a x m .sent)
 unfolding pushOf
 push-marked Taken x m ys e = step-marked x m ys e
-push-marked (Refused f) x m ys e = no-frames-marked (m .soft)
+push-marked (Refused f) x m ys e = no-frames-marked (m .figures .soft)
 
-sent-marked : (fs : List Frame) (next : State) (rest : FedOut) → Marked (next .soft) fs → Marked (rest .next .soft) (rest .sent) → Marked (unlessSent fs next rest .next .soft) (unlessSent fs next rest .sent)
+sent-marked : (fs : List Frame) (next : State) (rest : FedOut) → Marked (next .figures .soft) fs → Marked (rest .next .figures .soft) (rest .sent) → Marked (unlessSent fs next rest .next .figures .soft) (unlessSent fs next rest .sent)
 unfolding unlessSent oneMore
 sent-marked [] next rest h k = k
 sent-marked (f ∷ fs) next rest h k = h
 
-answer-marked : (a : Push) (x : Input) (m : State) (rest : FedOut) → Marked (step x m .next .soft) (step x m .sent) → Marked (rest .next .soft) (rest .sent)
-    → Marked (unlessRefused a m (step x m) rest .next .soft) (unlessRefused a m (step x m) rest .sent)
+answer-marked : (a : Push) (x : Input) (m : State) (rest : FedOut) → Marked (step x m .next .figures .soft) (step x m .sent) → Marked (rest .next .figures .soft) (rest .sent)
+    → Marked (unlessRefused a m (step x m) rest .next .figures .soft) (unlessRefused a m (step x m) rest .sent)
 unfolding unlessRefused
 answer-marked Taken x m rest h k = sent-marked (step x m .sent) (step x m .next) rest h k
-answer-marked (Refused f) x m rest h k = no-frames-marked (m .soft)
+answer-marked (Refused f) x m rest h k = no-frames-marked (m .figures .soft)
 
-fed-marked : (room : ℕ) (xs : List Input) (m : State) (ys : List Input) → m ≡ stateAfter ys → Marked (fedOf room xs m .next .soft) (fedOf room xs m .sent)
+fed-marked : (room : ℕ) (xs : List Input) (m : State) (ys : List Input) → m ≡ stateAfter ys → Marked (fedOf room xs m .next .figures .soft) (fedOf room xs m .sent)
 unfolding fedOf
-fed-marked room [] m ys e = no-frames-marked (m .soft)
+fed-marked room [] m ys e = no-frames-marked (m .figures .soft)
 fed-marked room (x ∷ xs) m ys e = answer-marked (answerTo room x m) x m (fedOf room xs (step x m .next)) (step-marked x m ys e) (fed-marked room xs (step x m .next) (ys ++ (x ∷ [])) (step-reached x m ys e))
 
 -- ---- a call
@@ -69,7 +69,7 @@ whole-read (f ∷ fs) room left soft hs w k eh el =
     ap₂ (λ (l : List Head) (r : List ℕ). wholeSlots soft l r 0) eh el ∙ read-whole soft (f ∷ fs) room 0 k (omega arith)
 
 abbrev wholeOut : Call → List Whole
-wholeOut c = wholeSlots (answerOf c .next .numbers .soft) (take (answerOf c .count) (answerOf c .heads)) (leftBy c) 0
+wholeOut c = wholeSlots (answerOf c .next .numbers .figures .soft) (take (answerOf c .count) (answerOf c .heads)) (leftBy c) 0
 
 push-whole : (s : Synchroniser) (x : Input) (room left : List ℕ) (r : Pushed) → PushedBy room left s x r → (ys : List Input) → view s ≡ stateAfter ys → wholeOut (pushing x room left r) ≡ wholeAs (run (madeBy (pushing x room left r)) (view s) .sent)
 unfolding answerOf leftBy madeBy
@@ -78,8 +78,8 @@ push-whole s x room left r p ys e =
     let a = answerTo (length room) x m in
     let o = pushOf a x m in
     let w = push-fits (length room) x m a refl in
-    let soft : o .next .soft ≡ r .next .numbers .soft = sym (ap (λ (n : State). n .soft) (p .next)) in
-    whole-read (o .sent) room left (r .next .numbers .soft) (take (r .count) (r .heads)) w (subst (λ (b : Bool). Marked b (o .sent)) soft (push-marked a x m ys e)) (heads-are (r .count) (r .heads) (o .sent) (w .most) (p .many) (p .figures)) (p .stored)
+    let soft : o .next .figures .soft ≡ r .next .numbers .figures .soft = sym (ap (λ (n : State). n .figures .soft) (p .next)) in
+    whole-read (o .sent) room left (r .next .numbers .figures .soft) (take (r .count) (r .heads)) w (subst (λ (b : Bool). Marked b (o .sent)) soft (push-marked a x m ys e)) (heads-are (r .count) (r .heads) (o .sent) (w .most) (p .many) (p .figures)) (p .stored)
     ∙ ap wholeAs (made-run a x m .1 ∙ ap (λ (z : Push). run (made z x) m .sent) (sym (p .answer)))
 
 feed-whole : (s : Synchroniser) (xs : List Input) (room left : List ℕ) (f : Fed) → FedBy room left (fedOf (length room) xs (view s)) f → (ys : List Input) → view s ≡ stateAfter ys → wholeOut (feeding xs room left f) ≡ wholeAs (run (madeBy (feeding xs room left f)) (view s) .sent)
@@ -89,8 +89,8 @@ feed-whole s xs room left f b ys e =
     let o = fedOf (length room) xs m in
     let r = feed-rules (length room) xs m in
     let w = fed-fits (length room) xs m in
-    let soft : o .next .soft ≡ f .pushed .next .numbers .soft = sym (ap (λ (n : State). n .soft) (b .next)) in
-    whole-read (o .sent) room left (f .pushed .next .numbers .soft) (take (f .pushed .count) (f .pushed .heads)) w (subst (λ (t : Bool). Marked t (o .sent)) soft (fed-marked (length room) xs m ys e)) (heads-are (f .pushed .count) (f .pushed .heads) (o .sent) (w .most) (b .many) (b .figures)) (b .stored)
+    let soft : o .next .figures .soft ≡ f .pushed .next .numbers .figures .soft = sym (ap (λ (n : State). n .figures .soft) (b .next)) in
+    whole-read (o .sent) room left (f .pushed .next .numbers .figures .soft) (take (f .pushed .count) (f .pushed .heads)) w (subst (λ (t : Bool). Marked t (o .sent)) soft (fed-marked (length room) xs m ys e)) (heads-are (f .pushed .count) (f .pushed .heads) (o .sent) (w .most) (b .many) (b .figures)) (b .stored)
     ∙ ap wholeAs (r .sent ∙ ap (λ (n : ℕ). run (take n xs) m .sent) (sym (b .used)))
 
 call-whole : (s : Synchroniser) (c : Call) → Meets s c → (ys : List Input) → view s ≡ stateAfter ys → wholeOut c ≡ wholeAs (run (madeBy c) (view s) .sent)

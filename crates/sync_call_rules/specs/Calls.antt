@@ -108,7 +108,7 @@ wholeSlots soft (h ∷ hs) room k = record { frame = record { head = h; envelope
 unfoldable pub handedWhole : List Call → List Whole
 unfolding wholeSlots answerOf leftBy
 handedWhole [] = []
-handedWhole (c ∷ cs) = wholeSlots (answerOf c .next .numbers .soft) (take (answerOf c .count) (answerOf c .heads)) (leftBy c) 0 ++ handedWhole cs
+handedWhole (c ∷ cs) = wholeSlots (answerOf c .next .numbers .figures .soft) (take (answerOf c .count) (answerOf c .heads)) (leftBy c) 0 ++ handedWhole cs
 
 -- the frames of the rules
 unfoldable pub wholeAs : List Frame → List Whole
@@ -129,7 +129,7 @@ placeIn s cs = length (streamOf cs) - stateOf s cs .numbers .pending
 -- a search begins: no call was made, or the last one handed out a frame and handed back a state with no lock
 unfoldable pub BeginsAt : List Call → Type 0
 unfolding answerOf
-BeginsAt before = (before ≡ []) ⊎ ((cs : List Call) × (c : Call) × (before ≡ cs ++ (c ∷ [])) × (0 < answerOf c .count) × (answerOf c .next .numbers .locked ≡ false))
+BeginsAt before = (before ≡ []) ⊎ ((cs : List Call) × (c : Call) × (before ≡ cs ++ (c ∷ [])) × (0 < answerOf c .count) × (answerOf c .next .numbers .figures .locked ≡ false))
 
 -- the offset of the last frame, d if there is none; and that of the first frame of a search that began at p and found q
 unfoldable pub lastGot : ℕ → List Got → ℕ

@@ -54,8 +54,8 @@ endCalls = (s : Synchroniser) → ValidSynchroniser s → view s ≡ start → (
 -- calls that make no more pushes than `quiet_dibits` says hand out no frame, and the settled offset and the lock stay
 pub record QuietCalls (s : Synchroniser) (cs : List Call) : Type 0 where
   pub handed : handed cs ≡ []
-  pub clock : view (stateOf s cs) .clock ≡ view s .clock
-  pub locked : view (stateOf s cs) .locked ≡ view s .locked
+  pub clock : view (stateOf s cs) .figures .clock ≡ view s .figures .clock
+  pub locked : view (stateOf s cs) .figures .locked ≡ view s .figures .locked
 
 abbrev pub quietCalls : Type 0
 quietCalls = (s : Synchroniser) → ValidSynchroniser s → (cs : List Call) → History s cs → length (accepted cs) ≤ quiet (view s) → QuietCalls s cs

@@ -27,8 +27,8 @@ by-lock true n f g = omega (arith, f refl)
 by-lock false n f g = g refl
 
 -- a state in which no frame is ready
-pub few-of : (xs : List ℕ) (c : Numbers) (r : Readiness) → Looked xs c r → r .ready ≡ false → (c .locked ≡ false → c .pending ≤ 1151) → Few c
-few-of xs c r x f g = (x .few f, by-lock (c .locked) (c .pending) (x .few f) g)
+pub few-of : (xs : List ℕ) (c : Numbers) (r : Readiness) → Looked xs c r → r .ready ≡ false → (c .figures .locked ≡ false → c .pending ≤ 1151) → Few c
+few-of xs c r x f g = (x .few f, by-lock (c .figures .locked) (c .pending) (x .few f) g)
 
 module _ (bits reliabilities : List ℕ) where
   nothing : (room : List ℕ) (k n : ℕ) (c : Numbers) (o : Out) → Steady c → Few c → record { sent = []; next = viewOf bits reliabilities c } ≡ o → DrainedBy bits reliabilities room room k n o c 0 (headsOf n [])

@@ -41,7 +41,7 @@ module _ (bits reliabilities room r1 r2 : List ℕ) (to : ℕ) (c : Numbers) (p 
     (ex : xo ≡ matches (ring bits (c .first + c .restorable) (c .pending)) 0 0) (ey : yo ≡ matches (ring bits (c .first + c .restorable) (c .pending)) p 1) (ez : zo ≡ matches (ring bits (c .first + c .restorable) (c .pending)) q 2)
     (fx : xe ≡ errors (ring bits (c .first + c .restorable) (c .pending)) 0 0) (fy : ye ≡ errors (ring bits (c .first + c .restorable) (c .pending)) p 1) (fz : ze ≡ errors (ring bits (c .first + c .restorable) (c .pending)) q 2)
     (eo : ok ≡ twoOf xo yo zo)
-    (l1 : r1 ≡ sets room to (bytesOf 48 (runs bits (c .first + c .restorable) p q))) (l2 : r2 ≡ sets r1 (to + 48) (cond (c .soft) (runs reliabilities (c .first + c .restorable) p q) []))
+    (l1 : r1 ≡ sets room to (bytesOf 48 (runs bits (c .first + c .restorable) p q))) (l2 : r2 ≡ sets r1 (to + 48) (cond (c .figures .soft) (runs reliabilities (c .first + c .restorable) p q) []))
     (d : Numbers) (lf : Left c q ok d) (moves : Moves) (v : Move) (em : moves ≡ movesAt v p q) where
   fine : ok ≡ frameAt v (viewOf bits reliabilities c) p q .matched
   unfolding frameAt
@@ -55,16 +55,16 @@ module _ (bits reliabilities room r1 r2 : List ℕ) (to : ℕ) (c : Numbers) (p 
   unfolding frameAt
   laid =
       let A = bytesOf 48 (runs bits (c .first + c .restorable) p q) in
-      let Z = cond (c .soft) (runs reliabilities (c .first + c .restorable) p q) [] in
+      let Z = cond (c .figures .soft) (runs reliabilities (c .first + c .restorable) p q) [] in
       l2 ∙ ap (λ (z : List ℕ). sets z (to + 48) Z) l1
       ∙ ap (λ (n : ℕ). sets (sets room to A) (to + n) Z) (sym (length-bytesOf 48 (runs bits (c .first + c .restorable) p q)))
       ∙ sets-append room to A Z
-      ∙ ap₂ (λ (a b : List ℕ). sets room to (bytesOf 48 a ++ cond (c .soft) b [])) (sym (cut-runs bits c p q (sn .fit .0) (sn .fit .1))) (sym (cut-runs reliabilities c p q (sn .fit .0) (sn .fit .1)))
+      ∙ ap₂ (λ (a b : List ℕ). sets room to (bytesOf 48 a ++ cond (c .figures .soft) b [])) (sym (cut-runs bits c p q (sn .fit .0) (sn .fit .1))) (sym (cut-runs reliabilities c p q (sn .fit .0) (sn .fit .1)))
 
   next : viewOf bits reliabilities d ≡ leave (viewOf bits reliabilities c) q (frameAt v (viewOf bits reliabilities c) p q .matched)
   next = lf .same bits reliabilities ∙ ap (leave (viewOf bits reliabilities c) q) fine
 
-  pub goes-out : SentBy bits reliabilities room r2 to (c .pending) (sendAt v (viewOf bits reliabilities c) p q) (record { numbers = d; head = record { offset = c .clock; matched = ok; errors = xe + ye + ze; moves = moves } })
+  pub goes-out : SentBy bits reliabilities room r2 to (c .pending) (sendAt v (viewOf bits reliabilities c) p q) (record { numbers = d; head = record { offset = c .figures .clock; matched = ok; errors = xe + ye + ze; moves = moves } })
   unfolding sendAt frameAt
   goes-out =
       let far = sn .far .0 in

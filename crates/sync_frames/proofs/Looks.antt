@@ -20,10 +20,10 @@ use Rattle.sync_numbers.proofs.Pendings.{pending-ring}
 
 module _ (xs : List ℕ) (c : Numbers) (st : Steady c) where
   -- `ready` by the lock, the count and the marker test
-  shape : (ys : List ℕ) → (c .locked && (leb 384 (c .pending) && (inPlace (ring xs (c .first + c .restorable) (c .pending)) 0 || leb 392 (c .pending)))) ≡ ready (viewOf xs ys c)
+  shape : (ys : List ℕ) → (c .figures .locked && (leb 384 (c .pending) && (inPlace (ring xs (c .first + c .restorable) (c .pending)) 0 || leb 392 (c .pending)))) ≡ ready (viewOf xs ys c)
   unfolding ready
   shape ys =
-      ap₂ (λ (n : ℕ) (l : List ℕ). c .locked && (leb 384 n && (inPlace l 0 || leb 392 n)))
+      ap₂ (λ (n : ℕ) (l : List ℕ). c .figures .locked && (leb 384 n && (inPlace l 0 || leb 392 n)))
       (sym (ap length (pending-ring xs (c .first) (c .restorable) (c .pending)) ∙ length-ring xs (c .first + c .restorable) (c .pending)))
       (sym (pending-ring xs (c .first) (c .restorable) (c .pending)))
 
@@ -33,10 +33,10 @@ module _ (xs : List ℕ) (c : Numbers) (st : Steady c) where
   never : {A : Type 0} → false ≡ true → A
   never e = absurd (true≢false (sym e))
 
-  pub asleep : c .locked ≡ false → Looked xs c (record { ready = false; placed = false })
+  pub asleep : c .figures .locked ≡ false → Looked xs c (record { ready = false; placed = false })
   asleep e = record { same = λ ys. ap (λ (b : Bool). b && (leb 384 (c .pending) && (inPlace (ring xs (c .first + c .restorable) (c .pending)) 0 || leb 392 (c .pending)))) (sym e) ∙ shape ys; can = λ w. never w; seen = λ w. never w; few = λ w v. absurd (true≢false (sym v ∙ e)) }
 
-  module _ (lk : c .locked ≡ true) where
+  module _ (lk : c .figures .locked ≡ true) where
     locks : (m : Bool) → m ≡ (leb 384 (c .pending) && (inPlace (ring xs (c .first + c .restorable) (c .pending)) 0 || leb 392 (c .pending))) → (ys : List ℕ) → m ≡ ready (viewOf xs ys c)
     locks m e ys = e ∙ ap (λ (b : Bool). b && (leb 384 (c .pending) && (inPlace (ring xs (c .first + c .restorable) (c .pending)) 0 || leb 392 (c .pending)))) (sym lk) ∙ shape ys
 

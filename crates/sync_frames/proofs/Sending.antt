@@ -12,16 +12,19 @@ use Rattle.sync_numbers.specs.declared.numbers.Numbers.{Numbers}
 use Rattle.sync_frames.specs.declared.frames.Framed.{Framed}
 use Rattle.sync_rings.specs.Ring.{ring}
 use Rattle.sync_numbers.specs.View.{viewOf}
-use Rattle.sync_numbers.specs.Numbers.{withMoves, movesSeen}
+use Rattle.sync_numbers.specs.Numbers.{numbersWith, shiftCounted, movesSeen}
 use Rattle.sync_frames.specs.Frames.{Fronted, Sendable, SentBy, Ready}
 use Rattle.sync_rules.specs.declared.Moves.{Moves}
+use Rattle.sync_rules.specs.declared.StreamFigures.{StreamFigures}
+use Rattle.sync_rules.specs.Figures.{slipsCounted}
 use Rattle.sync_rules.specs.Matching.{inPlace}
 use Rattle.sync_rules.specs.Moves.{Move, Stay, Later, Earlier, moved, inBits, movesAt, noMoves, moveTo, laters, earliers}
-use Rattle.sync_rules.specs.State.{State, pending, counted}
+use Rattle.sync_rules.specs.State.{State, pending, withFigures, counted}
 use Rattle.sync_rules.specs.Frames.{Sent, frontMove, send, sendAt, sendShifted, secondShift, secondAt, thirdShift, thirdAt}
 use Rattle.bits.proofs.Conds.{cond-lt, cond-ge, cond-both}
 use Rattle.bits.proofs.Tests.{cond-yes, cond-no}
 use Rattle.sync_rules.proofs.Slipped.{followed}
+use Rattle.sync_numbers.proofs.Slipping.{slipped-sound}
 use Rattle.sync_frames.proofs.Fronts.{of-pending}
 
 -- how a move is counted, by where it led
@@ -36,6 +39,9 @@ unfolding moved earliers
 earliers-seen Stay p h = cond-ge p p 1 0 (omega arith)
 earliers-seen Later p h = cond-ge (p + 2) p 1 0 (omega arith)
 earliers-seen Earlier p h = cond-lt (p - 2) p 1 0 (omega arith)
+
+shift-seen : (v : Move) (due : ℕ) (f : StreamFigures) → 2 ≤ due → shiftCounted (moved v due) due f ≡ slipsCounted (laters v) (earliers v) f
+shift-seen v due f h = ap₂ (λ (a b : ℕ). slipsCounted a b f) (laters-seen v due h) (earliers-seen v due h)
 
 -- one move at most
 one-move : (a b : ℕ) → cond (ltb a b) 1 0 + cond (ltb b a) 1 0 ≤ 1
@@ -63,7 +69,7 @@ moved-so bits reliabilities c d fr p q r er =
     let m = viewOf bits reliabilities c in
     let f = followed (frontMove m) m in
     er ∙ ap (λ (z : ℤ). record { front = z; second = subℕ p 128; third = subℕ q 256 })
-    (seen (frontMove m) (c .later) (c .earlier) (d .later) (d .earlier) (ap (λ (n : State). n .later) (fr .same reliabilities) ∙ f .0) (ap (λ (n : State). n .earlier) (fr .same reliabilities) ∙ f .1))
+    (seen (frontMove m) (c .figures .later) (c .figures .earlier) (d .figures .later) (d .figures .earlier) (ap (λ (n : State). n .figures .later) (fr .same reliabilities) ∙ f .0) (ap (λ (n : State). n .figures .earlier) (fr .same reliabilities) ∙ f .1))
 
 pub resent : (bits reliabilities room room′ : List ℕ) (to n n′ : ℕ) (s s′ : Sent) (r : Framed) → s ≡ s′ → n ≤ n′ → SentBy bits reliabilities room room′ to n s r → SentBy bits reliabilities room room′ to n′ s′ r
 resent bits reliabilities room room′ to n n′ s s′ r e h x =
@@ -83,8 +89,8 @@ module _ (bits reliabilities : List ℕ) (c : Numbers) (placed : Bool) (rd : Rea
   module _ (no : placed ≡ false) (d : Numbers) (fr : Fronted bits c d) (p q : ℕ)
       (ep : p ≡ moved (moveTo (ring bits (d .first + d .restorable) (d .pending)) 128 1) 128) (np : (p ≤ 130) × (126 ≤ p))
       (eq : q ≡ moved (moveTo (ring bits (d .first + d .restorable) (d .pending)) (p + 128) 2) (p + 128)) (nq : (q ≤ p + 130) × (p + 126 ≤ q))
-      (e : Numbers) (ee : e ≡ withMoves d (d .later + cond (ltb 128 p) 1 0 + cond (ltb (p + 128) q) 1 0) (d .earlier + cond (ltb p 128) 1 0 + cond (ltb q (p + 128)) 1 0)) where
-    sendable : Sendable (withMoves d (d .later + cond (ltb 128 p) 1 0 + cond (ltb (p + 128) q) 1 0) (d .earlier + cond (ltb p 128) 1 0 + cond (ltb q (p + 128)) 1 0)) p q
+      (e : Numbers) (ee : e ≡ numbersWith (shiftCounted q (p + 128) (shiftCounted p 128 (d .figures))) d) where
+    sendable : Sendable (numbersWith (shiftCounted q (p + 128) (shiftCounted p 128 (d .figures))) d) p q
     sendable =
         let s = fr .sound in
         let l = fr .long in
@@ -92,17 +98,7 @@ module _ (bits reliabilities : List ℕ) (c : Numbers) (placed : Bool) (rd : Rea
         let ff = fr .failures in
         let rf = rd .failures in
         record {
-          sound = record {
-            first-in = s .first-in;
-            restorable-few = s .restorable-few;
-            held-few = s .held-few;
-            taken-few = s .taken-few;
-            tide = s .tide;
-            grid = s .grid;
-            synchronised-few = s .synchronised-few;
-            slips-few = omega (arith, fr .slips-few, fr .frames, one-move 128 p, one-move (p + 128) q);
-            failures-few = s .failures-few;
-          };
+          sound = slipped-sound (numbersWith (shiftCounted p 128 (d .figures)) d) _ _ (slipped-sound d _ _ s (omega (arith, fr .slips-few, fr .frames, one-move 128 p))) (omega (arith, fr .slips-few, fr .frames, one-move 128 p, one-move (p + 128) q));
           near = (omega arith, omega arith);
           far = (omega arith, omega arith);
           fit = (omega arith, omega arith);
@@ -127,28 +123,13 @@ module _ (bits reliabilities : List ℕ) (c : Numbers) (placed : Bool) (rd : Rea
     unfolding thirdShift
     third = of-pending (λ l. moved (moveTo l (p + 128) 2) (p + 128)) bits d q eq ∙ ap (λ (z : ℕ). moved (moveTo (pending M) (z + 128) 2) (z + 128)) second
 
-    counted-at : ℕ → ℕ → State
-    counted-at a b = viewOf bits reliabilities (withMoves d a b)
-
-    counts : (a a′ b b′ : ℕ) → a ≡ a′ → b ≡ b′ → counted-at a b ≡ counted-at a′ b′
-    counts a a′ b b′ f g = cc
-
-    two-moves : (n i j i′ j′ : ℕ) → i ≡ i′ → j ≡ j′ → n + i + j ≡ n + i′ + j′
-    two-moves n i j i′ j′ f g = omega arith
-
-    laters-two : d .later + cond (ltb 128 p) 1 0 + cond (ltb (p + 128) q) 1 0 ≡ d .later + laters (secondShift M) + laters (thirdShift M)
-    laters-two = two-moves (d .later) _ _ _ _
-        (ap (λ (z : ℕ). cond (ltb 128 z) 1 0) second ∙ laters-seen (secondShift M) 128 (omega arith))
-        (ap₂ (λ (y z : ℕ). cond (ltb (y + 128) z) 1 0) second third ∙ laters-seen (thirdShift M) (secondAt M + 128) (omega arith))
-
-    earliers-two : d .earlier + cond (ltb p 128) 1 0 + cond (ltb q (p + 128)) 1 0 ≡ d .earlier + earliers (secondShift M) + earliers (thirdShift M)
-    earliers-two = two-moves (d .earlier) _ _ _ _
-        (ap (λ (z : ℕ). cond (ltb z 128) 1 0) second ∙ earliers-seen (secondShift M) 128 (omega arith))
-        (ap₂ (λ (y z : ℕ). cond (ltb z (y + 128)) 1 0) second third ∙ earliers-seen (thirdShift M) (secondAt M + 128) (omega arith))
-
-    all-counted : counted-at (d .later + cond (ltb 128 p) 1 0 + cond (ltb (p + 128) q) 1 0) (d .earlier + cond (ltb p 128) 1 0 + cond (ltb q (p + 128)) 1 0) ≡ counted (thirdShift M) (counted (secondShift M) M)
-    unfolding counted counted-at
-    all-counted = counts _ _ _ _ laters-two earliers-two
+    all-counted : viewOf bits reliabilities (numbersWith (shiftCounted q (p + 128) (shiftCounted p 128 (d .figures))) d) ≡ counted (thirdShift M) (counted (secondShift M) M)
+    unfolding counted
+    all-counted =
+        ap (λ (f : StreamFigures). withFigures f M)
+        (ap₂ (λ (y z : ℕ). shiftCounted z (y + 128) (shiftCounted y 128 (d .figures))) second third
+        ∙ ap (shiftCounted (thirdAt M) (secondAt M + 128)) (shift-seen (secondShift M) 128 (d .figures) (omega arith))
+        ∙ shift-seen (thirdShift M) (secondAt M + 128) _ (omega arith))
 
     like : (v : Move) (m m′ : State) (a a′ b b′ : ℕ) → m ≡ m′ → a ≡ a′ → b ≡ b′ → sendAt v m a b ≡ sendAt v m′ a′ b′
     like v m m′ a a′ b b′ f g h = cc
@@ -157,7 +138,7 @@ module _ (bits reliabilities : List ℕ) (c : Numbers) (placed : Bool) (rd : Rea
     Fr = frontMove (viewOf bits reliabilities c)
 
     pub out-of-place : sendAt Fr (viewOf bits reliabilities e) p q ≡ send (viewOf bits reliabilities c)
-    unfolding send sendShifted counted-at
+    unfolding send sendShifted
     out-of-place =
         like Fr _ _ _ _ _ _ (ap (viewOf bits reliabilities) ee ∙ all-counted) second third
         ∙ ap (sendShifted Fr) (fr .same reliabilities)

@@ -23,11 +23,11 @@ use Rattle.sync_rules.specs.Room.{bytesOf, laid}
 pub record Fronted (bits : List ℕ) (c r : Numbers) : Type 0 where
   pub sound : Sound r
   pub same : (ys : List ℕ) → viewOf bits ys r ≡ follow (frontMove (viewOf bits ys c)) (viewOf bits ys c)
-  pub slips-few : r .later + r .earlier ≤ 3 * c .frames + 1
+  pub slips-few : r .figures .later + r .figures .earlier ≤ 3 * c .figures .frames + 1
   pub long : 390 ≤ r .pending
-  pub failures : r .failures ≡ c .failures
-  pub locked : r .locked ≡ c .locked
-  pub frames : r .frames ≡ c .frames
+  pub failures : r .figures .failures ≡ c .figures .failures
+  pub locked : r .figures .locked ≡ c .figures .locked
+  pub frames : r .figures .frames ≡ c .figures .frames
   pub held : r .restorable + r .pending ≤ c .restorable + c .pending
 
 -- a frame with its second and third segment p and q behind its front can be sent
@@ -36,15 +36,15 @@ pub record Sendable (c : Numbers) (p q : ℕ) : Type 0 where
   pub near : (126 ≤ p) × (p ≤ 130)
   pub far : (252 ≤ q) × (q ≤ 260)
   pub fit : (p + 128 ≤ c .pending) × (q + 128 ≤ c .pending)
-  pub failures : c .failures ≤ 2
-  pub locked : c .locked ≡ true
+  pub failures : c .figures .failures ≤ 2
+  pub locked : c .figures .locked ≡ true
 
 -- r and the room's contents are what the frame s says
 pub record SentBy (bits reliabilities room room′ : List ℕ) (to most : ℕ) (s : Sent) (r : Framed) : Type 0 where
   pub sound : Sound (r .numbers)
   pub low : Low (r .numbers)
-  pub slips : r .numbers .later + r .numbers .earlier ≤ 3 * r .numbers .frames
-  pub fails : r .numbers .locked ≡ true → r .numbers .failures ≤ 2
+  pub slips : r .numbers .figures .later + r .numbers .figures .earlier ≤ 3 * r .numbers .figures .frames
+  pub fails : r .numbers .figures .locked ≡ true → r .numbers .figures .failures ≤ 2
   pub pending : r .numbers .pending + 380 ≤ most
   pub next : viewOf bits reliabilities (r .numbers) ≡ s .next
   pub head : (r .head .offset ≡ s .frame .offset) × (r .head .matched ≡ s .frame .matched) × (r .head .errors ≡ s .frame .errors) × (r .head .moves ≡ s .frame .moves)
@@ -54,9 +54,9 @@ pub record SentBy (bits reliabilities room room′ : List ℕ) (to most : ℕ) (
 pub record Ready (c : Numbers) (placed : Bool) : Type 0 where
   pub sound : Sound c
   pub low : Low c
-  pub slips : c .later + c .earlier ≤ 3 * c .frames
-  pub failures : c .failures ≤ 2
-  pub locked : c .locked ≡ true
+  pub slips : c .figures .later + c .figures .earlier ≤ 3 * c .figures .frames
+  pub failures : c .figures .failures ≤ 2
+  pub locked : c .figures .locked ≡ true
   pub enough : 384 ≤ c .pending
   pub more : placed ≡ false → 392 ≤ c .pending
 
@@ -65,7 +65,7 @@ pub record Looked (bits : List ℕ) (c : Numbers) (r : Readiness) : Type 0 where
   pub same : (ys : List ℕ) → r .ready ≡ ready (viewOf bits ys c)
   pub can : r .ready ≡ true → Ready c (r .placed)
   pub seen : r .ready ≡ true → r .placed ≡ inPlace (ring bits (c .first + c .restorable) (c .pending)) 0
-  pub few : r .ready ≡ false → c .locked ≡ true → c .pending ≤ 391
+  pub few : r .ready ≡ false → c .figures .locked ≡ true → c .pending ≤ 391
 
 -- the figures of a frame that go back by value
 abbrev pub headOf : Frame → Head

@@ -17,6 +17,7 @@ use sync_numbers::moves_of;
 use sync_numbers::restored;
 use sync_numbers::sent;
 use sync_numbers::shifted;
+use sync_numbers::slipped;
 use sync_rings::in_place;
 use sync_rings::lay_bits;
 use sync_rings::lay_soft;
@@ -48,7 +49,7 @@ pub struct Drained {
 
 // Follows the front of a frame that is not in place: it stays, goes a symbol later, or a symbol back.
 fn front(bits: &[u8; 1155], c: Numbers) -> Numbers
-    requires { ⌜ Bits (now bits) ⌝ ∗ ⌜ Sound c ⌝ ∗ ⌜ 392 ≤ c .pending ⌝ ∗ ⌜ c .later + c .earlier ≤ 3 * c .frames ⌝ ∗ ⌜ Low c ⌝ }
+    requires { ⌜ Bits (now bits) ⌝ ∗ ⌜ Sound c ⌝ ∗ ⌜ 392 ≤ c .pending ⌝ ∗ ⌜ c .figures .later + c .figures .earlier ≤ 3 * c .figures .frames ⌝ ∗ ⌜ Low c ⌝ }
     ensures { λ r. ⌜ Fronted (now (bits .entry)) c r ⌝ }
 {
     let base = c.first + c.restorable;
@@ -58,17 +59,15 @@ fn front(bits: &[u8; 1155], c: Numbers) -> Numbers
     }
     let b = matches_at(bits, base + 2, 0);
     if b {
-        let mut d = dropped(c, 2);
-        d.later = c.later + 1;
-        return d;
+        let d = dropped(c, 2);
+        return slipped(d, 1, 0);
     }
     if c.restorable == 2 {
         let first = c.first;
         let e = matches_at(bits, first, 0);
         if e {
-            let mut g = restored(c);
-            g.earlier = c.earlier + 1;
-            return g;
+            let g = restored(c);
+            return slipped(g, 0, 1);
         }
         return c;
     }
@@ -95,10 +94,18 @@ fn frame_at<'a>(
     let z = marker(bits, base + q, 2);
     let matched = two_of(x.matched, y.matched, z.matched);
     lay_bits(&mut *room, to, bits, base, p, q);
-    lay_soft(&mut *room, to + 48, reliabilities, base, p, q, c.soft);
+    lay_soft(
+        &mut *room,
+        to + 48,
+        reliabilities,
+        base,
+        p,
+        q,
+        c.figures.soft,
+    );
     let numbers = sent(c, q, matched);
     let head = Head {
-        offset: c.clock,
+        offset: c.figures.clock,
         matched,
         errors: x.errors + y.errors + z.errors,
         moves,
@@ -141,7 +148,7 @@ fn look(bits: &[u8; 1155], c: Numbers) -> Readiness
     requires { ⌜ Bits (now bits) ⌝ ∗ ⌜ Steady c ⌝ }
     ensures { λ r. ⌜ Looked (now (bits .entry)) c r ⌝ }
 {
-    if c.locked {
+    if c.figures.locked {
         if c.pending < 384 {
             return Readiness {
                 ready: false,
@@ -213,7 +220,7 @@ fn three<'a>(
     c: Numbers,
     room: &mut [u8],
 ) -> Drained
-    requires { ⌜ Bits (now bits) ⌝ ∗ ⌜ Steady c ⌝ ∗ ⌜ 1296 ≤ length (now room) ⌝ ∗ ⌜ (c .locked ≡ false → c .pending ≤ 1151) ⌝ }
+    requires { ⌜ Bits (now bits) ⌝ ∗ ⌜ Steady c ⌝ ∗ ⌜ 1296 ≤ length (now room) ⌝ ∗ ⌜ (c .figures .locked ≡ false → c .pending ≤ 1151) ⌝ }
     ensures { λ r. ⌜ DrainedBy (now (bits .entry)) (now (reliabilities .entry)) (now (room .entry)) (now (room .exit)) 0 3 (drain 3 (viewOf (now (bits .entry)) (now (reliabilities .entry)) c)) (r .numbers) (r .count) (r .heads) ⌝ }
 {
     let moves = Moves {
@@ -258,10 +265,10 @@ pub fn drain<'a>(
     c: Numbers,
     room: &mut [u8],
 ) -> Drained
-    requires { ⌜ Bits (now bits) ⌝ ∗ ⌜ Steady c ⌝ ∗ ⌜ 1296 ≤ length (now room) ⌝ ∗ ⌜ (c .locked ≡ false → c .pending ≤ 1151) ⌝ }
+    requires { ⌜ Bits (now bits) ⌝ ∗ ⌜ Steady c ⌝ ∗ ⌜ 1296 ≤ length (now room) ⌝ ∗ ⌜ (c .figures .locked ≡ false → c .pending ≤ 1151) ⌝ }
     ensures { λ r. ⌜ DrainedBy (now (bits .entry)) (now (reliabilities .entry)) (now (room .entry)) (now (room .exit)) 0 3 (drain 3 (viewOf (now (bits .entry)) (now (reliabilities .entry)) c)) (r .numbers) (r .count) (r .heads) ⌝ }
 {
-    if c.locked {
+    if c.figures.locked {
         if 384 <= c.pending {
             return three(bits, reliabilities, c, room);
         }

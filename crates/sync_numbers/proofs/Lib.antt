@@ -1,3 +1,4 @@
 pub mod Pendings
+pub mod Slipping
 pub mod Sents
 pub mod Moved

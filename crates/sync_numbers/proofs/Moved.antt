@@ -36,5 +36,5 @@ kept z y e h = toZ-ofZ w8 z (subst (λ (x : ℤ). SFits w8 x) (sym e) h) ∙ e
 
 pub front-fits : (c d : Numbers) → SFits w8 (frontSeen c d)
 front-fits c d =
-    cond-cases (λ (z : ℤ). SFits w8 z) (ltb (c .later) (d .later)) (pos 2) _ (λ t. record { sfits = omega arith })
-    (λ w. cond-cases (λ (z : ℤ). SFits w8 z) (ltb (c .earlier) (d .earlier)) (negsuc 1) (pos 0) (λ t. record { sfits = omega arith }) (λ v. record { sfits = omega arith }))
+    cond-cases (λ (z : ℤ). SFits w8 z) (ltb (c .figures .later) (d .figures .later)) (pos 2) _ (λ t. record { sfits = omega arith })
+    (λ w. cond-cases (λ (z : ℤ). SFits w8 z) (ltb (c .figures .earlier) (d .figures .earlier)) (negsuc 1) (pos 0) (λ t. record { sfits = omega arith }) (λ v. record { sfits = omega arith }))

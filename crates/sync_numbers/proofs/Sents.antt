@@ -1,65 +1,45 @@
 -- The state left by a frame.
 -- Assumes nothing.
-use mathlib.Core.Path.{_≡_, refl, sym, ap, _∙_}
-use mathlib.Core.List.{List, []}
+use mathlib.Core.Path.{_≡_, refl, sym, ap, subst}
 use mathlib.Core.Bool.{Bool, true, false, cond}
 use Prim.Native.Nat.{ℕ, _+_, _≤_}
-use native.Mathlib.Nat.{add-zero}
 use native.Mathlib.Omega.{arith}
 use lib.Dec.{ltb}
 use borrow.Author.Tests.{ltb-true}
+use Rattle.sync_rules.specs.declared.StreamFigures.{StreamFigures}
 use Rattle.sync_numbers.specs.declared.numbers.Numbers.{Numbers}
-use Rattle.sync_numbers.specs.View.{viewOf, Sound}
-use Rattle.sync_numbers.specs.Numbers.{Dropped, Left}
-use Rattle.sync_rules.specs.State.{State, pass}
+use Rattle.sync_numbers.specs.View.{Sound}
+use Rattle.sync_numbers.specs.Numbers.{Dropped, Left, numbersWith}
+use Rattle.sync_rules.specs.Figures.{frameSent}
+use Rattle.sync_rules.specs.State.{withFigures}
 use Rattle.sync_rules.specs.Frames.{leave}
 
-abbrev pub after : Numbers → ℕ → ℕ → ℕ → ℕ → Bool → Numbers
-after d clock frames synchronised failures locked = record { first = d .first; restorable = d .restorable; pending = d .pending; taken = d .taken; clock = clock; later = d .later; earlier = d .earlier; frames = frames; synchronised = synchronised; failures = failures; locked = locked; soft = d .soft }
+one-more : (ok : Bool) → cond ok 1 0 ≤ 1
+one-more true = omega arith
+one-more false = omega arith
 
-abbrev afterM : State → ℕ → ℕ → ℕ → ℕ → Bool → State
-afterM m clock frames synchronised failures locked = record { held = m .held; reliabilities = m .reliabilities; restorable = m .restorable; taken = m .taken; clock = clock; later = m .later; earlier = m .earlier; frames = frames; synchronised = synchronised; failures = failures; locked = locked; soft = m .soft }
+failures-few : (ok : Bool) (n : ℕ) → n ≤ 2 → cond ok 0 (n + 1) ≤ 3
+failures-few true n h = omega arith
+failures-few false n h = omega arith
 
-module _ (c d : Numbers) (q : ℕ) (s : Sound c) (far : 252 ≤ q) (fit : q + 128 ≤ c .pending) (fl : c .failures ≤ 2) (lk : c .locked ≡ true) (dr : Dropped c (q + 128) d) where
-  took : d .taken ≡ c .taken
-  unfolding pass
-  took = ap (λ (m : State). m .taken) (dr .same [] [])
+locked-few : (ok : Bool) (n : ℕ) → cond ok true (ltb (n + 1) 3) ≡ true → cond ok 0 (n + 1) ≤ 2
+locked-few true n t = omega arith
+locked-few false n t = omega (arith, ltb-true (n + 1) 3 t)
 
-  slid : d .later + d .earlier ≡ c .later + c .earlier
-  unfolding pass
-  slid = ap (λ (m : State). m .later + m .earlier) (dr .same [] [])
-
-  held : d .synchronised ≡ c .synchronised
-  unfolding pass
-  held = ap (λ (m : State). m .synchronised) (dr .same [] [])
-
-  shut : d .locked ≡ c .locked
-  unfolding pass
-  shut = ap (λ (m : State). m .locked) (dr .same [] [])
-
-  goes : (t : Bool) (xs ys : List ℕ) → viewOf xs ys (after d (c .clock + 384) (c .frames + 1) (c .synchronised + cond t 1 0) (cond t 0 (c .failures + 1)) (cond t true (ltb (c .failures + 1) 3))) ≡ leave (viewOf xs ys c) q t
-  unfolding leave pass
-  goes t xs ys = ap (λ (m : State). afterM m (c .clock + 384) (c .frames + 1) (c .synchronised + cond t 1 0) (cond t 0 (c .failures + 1)) (cond t true (ltb (c .failures + 1) 3))) (dr .same xs ys)
-
-  full : (sy fa : ℕ) (lo ok : Bool) → sy ≤ c .synchronised + 1 → fa ≤ 3 → (lo ≡ true → fa ≤ 2) → ((xs ys : List ℕ) → viewOf xs ys (after d (c .clock + 384) (c .frames + 1) sy fa lo) ≡ leave (viewOf xs ys c) q ok) → Left c q ok (after d (c .clock + 384) (c .frames + 1) sy fa lo)
-  full sy fa lo ok hs hf hl e =
+module _ (c d : Numbers) (q : ℕ) (ok : Bool) (s : Sound c) (far : 252 ≤ q) (fit : q + 128 ≤ c .pending) (fl : c .figures .failures ≤ 2) (dr : Dropped c (q + 128) d) where
+  leaves : Left c q ok (numbersWith (frameSent ok (c .figures)) d)
+  unfolding leave
+  leaves =
       let sd = dr .sound in
       let ln = dr .pending in
       record {
-        sound = record { first-in = sd .first-in; restorable-few = sd .restorable-few; held-few = sd .held-few; taken-few = sd .taken-few; tide = omega (arith, took); grid = omega arith; synchronised-few = omega arith; slips-few = omega (arith, slid); failures-few = hf };
-        low = omega (arith, took);
-        slips = (slid, refl);
-        fails = hl;
+        sound = record { first-in = sd .first-in; restorable-few = sd .restorable-few; held-few = sd .held-few; taken-few = s .taken-few; tide = omega arith; grid = omega arith; synchronised-few = omega (arith, one-more ok); slips-few = omega arith; failures-few = failures-few ok _ fl };
+        low = omega arith;
+        slips = (refl, refl);
+        fails = locked-few ok _;
         pending = omega arith;
-        same = e;
+        same = λ xs ys. ap (withFigures (frameSent ok (c .figures))) (dr .same xs ys);
       }
 
-  pub good : (ok : Bool) → ok ≡ true → Left c q ok (after d (c .clock + 384) (c .frames + 1) (c .synchronised + 1) 0 (d .locked))
-  good ok t =
-      full (c .synchronised + 1) 0 (d .locked) ok (omega arith) (omega arith) (λ w. omega arith)
-      (λ xs ys. ap (λ (b : Bool). viewOf xs ys (after d (c .clock + 384) (c .frames + 1) (c .synchronised + 1) 0 b)) (shut ∙ lk) ∙ goes true xs ys ∙ ap (leave (viewOf xs ys c) q) (sym t))
-
-  pub poor : (ok : Bool) → ok ≡ false → Left c q ok (after d (c .clock + 384) (c .frames + 1) (d .synchronised) (c .failures + 1) (ltb (c .failures + 1) 3))
-  poor ok t =
-      full (d .synchronised) (c .failures + 1) (ltb (c .failures + 1) 3) ok (omega (arith, held)) (omega arith) (λ w. omega (arith, ltb-true (c .failures + 1) 3 w))
-      (λ xs ys. ap (λ (n : ℕ). viewOf xs ys (after d (c .clock + 384) (c .frames + 1) n (c .failures + 1) (ltb (c .failures + 1) 3))) (held ∙ sym (add-zero (c .synchronised))) ∙ goes false xs ys ∙ ap (leave (viewOf xs ys c) q) (sym t))
+  pub left : (f : StreamFigures) → f ≡ frameSent ok (c .figures) → Left c q ok (numbersWith f d)
+  left f e = subst (λ (g : StreamFigures). Left c q ok (numbersWith g d)) (sym e) leaves

@@ -9,6 +9,8 @@ use lib.IntN.{ℤ, pos, negsuc, subℕ}
 use Rattle.sync_numbers.specs.declared.numbers.Numbers.{Numbers}
 use Rattle.sync_rules.specs.declared.Moves.{Moves}
 use Rattle.sync_numbers.specs.View.{viewOf, Sound, Low}
+use Rattle.sync_rules.specs.declared.StreamFigures.{StreamFigures}
+use Rattle.sync_rules.specs.Figures.{slipsCounted}
 use Rattle.sync_rules.specs.State.{pass, restore}
 use Rattle.sync_rules.specs.Frames.{leave}
 
@@ -24,13 +26,17 @@ pub record Restored (c r : Numbers) : Type 0 where
   pub count : (r .restorable ≡ 0) × (r .pending ≡ c .restorable + c .pending)
   pub same : (xs ys : List ℕ) → viewOf xs ys r ≡ restore (viewOf xs ys c)
 
--- c with these counts of slips
-abbrev pub withMoves : Numbers → ℕ → ℕ → Numbers
-withMoves c a b = record { first = c .first; restorable = c .restorable; pending = c .pending; taken = c .taken; clock = c .clock; later = a; earlier = b; frames = c .frames; synchronised = c .synchronised; failures = c .failures; locked = c .locked; soft = c .soft }
+-- c with these figures
+abbrev pub numbersWith : StreamFigures → Numbers → Numbers
+numbersWith f c = record { first = c .first; restorable = c .restorable; pending = c .pending; figures = f }
+
+-- the shift of a segment that starts at a place and is due at another, counted
+abbrev pub shiftCounted : ℕ → ℕ → StreamFigures → StreamFigures
+shiftCounted at due f = slipsCounted (cond (ltb due at) 1 0) (cond (ltb at due) 1 0) f
 
 -- the front move between the numbers c and d, by the slips counted
 abbrev pub frontSeen : Numbers → Numbers → ℤ
-frontSeen c d = cond (ltb (c .later) (d .later)) (pos 2) (cond (ltb (c .earlier) (d .earlier)) (negsuc 1) (pos 0))
+frontSeen c d = cond (ltb (c .figures .later) (d .figures .later)) (pos 2) (cond (ltb (c .figures .earlier) (d .figures .earlier)) (negsuc 1) (pos 0))
 
 -- and the moves of a frame whose segments start p and q behind its front
 abbrev pub movesSeen : Numbers → Numbers → ℕ → ℕ → Moves
@@ -40,7 +46,7 @@ movesSeen c d p q = record { front = frontSeen c d; second = subℕ p 128; third
 pub record Left (c : Numbers) (q : ℕ) (matched : Bool) (r : Numbers) : Type 0 where
   pub sound : Sound r
   pub low : Low r
-  pub slips : (r .later + r .earlier ≡ c .later + c .earlier) × (r .frames ≡ c .frames + 1)
-  pub fails : r .locked ≡ true → r .failures ≤ 2
+  pub slips : (r .figures .later + r .figures .earlier ≡ c .figures .later + c .figures .earlier) × (r .figures .frames ≡ c .figures .frames + 1)
+  pub fails : r .figures .locked ≡ true → r .figures .failures ≤ 2
   pub pending : r .pending + (q + 128) ≡ c .pending
   pub same : (xs ys : List ℕ) → viewOf xs ys r ≡ leave (viewOf xs ys c) q matched

@@ -16,35 +16,35 @@ abbrev pub heldOf : List ℕ → Numbers → List ℕ
 heldOf xs c = ring xs (c .first) (c .restorable + c .pending)
 
 abbrev pub viewOf : List ℕ → List ℕ → Numbers → State
-viewOf bits reliabilities c = record { held = heldOf bits c; reliabilities = heldOf reliabilities c; restorable = c .restorable; taken = c .taken; clock = c .clock; later = c .later; earlier = c .earlier; frames = c .frames; synchronised = c .synchronised; failures = c .failures; locked = c .locked; soft = c .soft }
+viewOf bits reliabilities c = record { held = heldOf bits c; reliabilities = heldOf reliabilities c; restorable = c .restorable; figures = c .figures }
 
 -- what holds at any instant
 pub record Sound (c : Numbers) : Type 0 where
   pub first-in : c .first < 1155
   pub restorable-few : c .restorable ≤ 2
   pub held-few : c .restorable + c .pending ≤ 1155
-  pub taken-few : c .taken ≤ 2 ^ 40
+  pub taken-few : c .figures .taken ≤ 2 ^ 40
   -- a frame moves the clock by 384 and takes 378 bits or more (63·384 = 64·378): the clock stays below 2^42
-  pub tide : 63 * c .clock + 64 * c .pending ≤ 128 * c .taken + 128
-  pub grid : 384 * c .frames ≤ c .clock
-  pub synchronised-few : c .synchronised ≤ c .frames
-  pub slips-few : c .later + c .earlier ≤ 3 * c .frames + 3
-  pub failures-few : c .failures ≤ 3
+  pub tide : 63 * c .figures .clock + 64 * c .pending ≤ 128 * c .figures .taken + 128
+  pub grid : 384 * c .figures .frames ≤ c .figures .clock
+  pub synchronised-few : c .figures .synchronised ≤ c .figures .frames
+  pub slips-few : c .figures .later + c .figures .earlier ≤ 3 * c .figures .frames + 3
+  pub failures-few : c .figures .failures ≤ 3
 
 -- what holds of the tide where no bits were restored since the last frame
 abbrev pub Low : Numbers → Type 0
-Low c = 63 * c .clock + 64 * c .pending ≤ 128 * c .taken
+Low c = 63 * c .figures .clock + 64 * c .pending ≤ 128 * c .figures .taken
 
 -- what holds between frames
 pub record Steady (c : Numbers) : Type 0 where
   pub sound : Sound c
   pub low : Low c
-  pub slips : c .later + c .earlier ≤ 3 * c .frames
-  pub fails : c .locked ≡ true → c .failures ≤ 2
+  pub slips : c .figures .later + c .figures .earlier ≤ 3 * c .figures .frames
+  pub fails : c .figures .locked ≡ true → c .figures .failures ≤ 2
 
 -- what holds between pushes
 abbrev pub Few : Numbers → Type 0
-Few c = (c .locked ≡ true → c .pending ≤ 391) × (c .pending ≤ 1151)
+Few c = (c .figures .locked ≡ true → c .pending ≤ 391) × (c .pending ≤ 1151)
 
 -- rings lent in place: 1,155 places each, and bits that are 0 or 1
 pub record Rings (bits reliabilities : List ℕ) : Type 0 where

@@ -21,10 +21,10 @@ fn away(at: usize, base: usize) -> i8
 fn front_moved(c: Numbers, d: Numbers) -> i8
     ensures { λ r. ⌜ r ≡ frontSeen c d ⌝ }
 {
-    if c.later < d.later {
+    if c.figures.later < d.figures.later {
         return 2;
     }
-    if c.earlier < d.earlier {
+    if c.figures.earlier < d.figures.earlier {
         return -2;
     }
     0

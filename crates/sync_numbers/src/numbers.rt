@@ -1,26 +1,22 @@
 // The numbers of a synchroniser, and how passing, restoring, bringing and sending change them. The rings stay where they are:
 // the held bits begin at place `first` of the ring, the restorable ones before the pending ones, so that passing bits moves `first` and copies nothing.
 ghost use mathlib.Core.Path.{_≡_};
-ghost use mathlib.Core.Bool.{true, cond};
-ghost use Prim.Native.Nat.{_+_, _*_, _^_, _<_, _≤_};
-ghost use lib.Dec.{ltb};
+ghost use mathlib.Core.Bool.{true};
+ghost use Prim.Native.Nat.{_+_, _^_, _<_, _≤_};
+ghost use Rattle.sync_rules.specs.Figures.{slipsCounted};
 ghost use Rattle.sync_numbers.specs.View.{Sound, Low, Steady};
-ghost use Rattle.sync_numbers.specs.Numbers.{Dropped, Restored, Left, withMoves};
+ghost use Rattle.sync_numbers.specs.Numbers.{Dropped, Restored, Left, numbersWith, shiftCounted};
+use super::figures::frame_sent;
+use super::figures::shift_counted;
+use super::figures::slips_counted;
+use sync_rules::StreamFigures;
 
-// Everything but the rings. `later` and `earlier` count the slips that were followed; `taken` counts dibits.
+// Everything but the rings: where in them the held bits begin, how many of these are restorable and how many pending, and the figures.
 pub struct Numbers {
     pub first: usize,
     pub restorable: usize,
     pub pending: usize,
-    pub taken: u64,
-    pub clock: u64,
-    pub later: u64,
-    pub earlier: u64,
-    pub frames: u64,
-    pub synchronised: u64,
-    pub failures: u8,
-    pub locked: bool,
-    pub soft: bool,
+    pub figures: StreamFigures,
 }
 
 // Passes k pending bits: the last two passed are restorable.
@@ -51,47 +47,39 @@ pub fn restored(c: Numbers) -> Numbers
     d
 }
 
-// 1 if a lies beyond b.
-fn beyond(a: usize, b: usize) -> u64
-    ensures { λ r. ⌜ r ≡ cond (ltb b a) 1 0 ⌝ }
-    ensures few { λ r. ⌜ r ≤ 1 ⌝ }
+// Counts slips that were followed.
+pub fn slipped(c: Numbers, later: u64, earlier: u64) -> Numbers
+    requires { ⌜ c .figures .later + later < 2 ^ 64 ⌝ ∗ ⌜ c .figures .earlier + earlier < 2 ^ 64 ⌝ }
+    ensures { λ r. ⌜ r ≡ numbersWith (slipsCounted later earlier (c .figures)) c ⌝ }
 {
-    if b < a {
-        return 1;
-    }
-    0
+    let figures = c.figures;
+    let counted = slips_counted(figures, later, earlier);
+    let mut d = c;
+    d.figures = counted;
+    d
 }
 
 // Counts the shifts of a frame's second and third segment, which start p and q behind its front.
 pub fn shifted(c: Numbers, p: usize, q: usize) -> Numbers
-    requires { ⌜ c .later < 2 ^ 50 ⌝ ∗ ⌜ c .earlier < 2 ^ 50 ⌝ ∗ ⌜ p < 1000 ⌝ ∗ ⌜ q < 1000 ⌝ }
-    ensures { λ r. ⌜ r ≡ withMoves c (c .later + cond (ltb 128 p) 1 0 + cond (ltb (p + 128) q) 1 0) (c .earlier + cond (ltb p 128) 1 0 + cond (ltb q (p + 128)) 1 0) ⌝ }
+    requires { ⌜ c .figures .later < 2 ^ 50 ⌝ ∗ ⌜ c .figures .earlier < 2 ^ 50 ⌝ ∗ ⌜ p < 1000 ⌝ }
+    ensures { λ r. ⌜ r ≡ numbersWith (shiftCounted q (p + 128) (shiftCounted p 128 (c .figures))) c ⌝ }
 {
+    let figures = c.figures;
+    let second = shift_counted(figures, p, 128);
+    let third = shift_counted(second, q, p + 128);
     let mut d = c;
-    let a = beyond(p, 128);
-    let b = beyond(q, p + 128);
-    d.later = c.later + a + b;
-    let e = beyond(128, p);
-    let f = beyond(p + 128, q);
-    d.earlier = c.earlier + e + f;
+    d.figures = third;
     d
 }
 
-// Gives the numbers that a frame leaves whose third segment starts q behind its front: its bits are passed, and lock ends with the third failure in a row.
+// Gives the numbers that a frame leaves whose third segment starts q behind its front: its bits are passed, and it is counted.
 pub fn sent(c: Numbers, q: usize, matched: bool) -> Numbers
-    requires { ⌜ Sound c ⌝ ∗ ⌜ 252 ≤ q ⌝ ∗ ⌜ q + 128 ≤ c .pending ⌝ ∗ ⌜ c .failures ≤ 2 ⌝ ∗ ⌜ c .locked ≡ true ⌝ }
+    requires { ⌜ Sound c ⌝ ∗ ⌜ 252 ≤ q ⌝ ∗ ⌜ q + 128 ≤ c .pending ⌝ ∗ ⌜ c .figures .failures ≤ 2 ⌝ ∗ ⌜ c .figures .locked ≡ true ⌝ }
     ensures { λ r. ⌜ Left c q matched r ⌝ }
 {
     let mut e = dropped(c, q + 128);
-    e.clock = c.clock + 384;
-    e.frames = c.frames + 1;
-    if matched {
-        e.failures = 0;
-        e.synchronised = c.synchronised + 1;
-        return e;
-    }
-    let f = c.failures + 1;
-    e.failures = f;
-    e.locked = f < 3;
+    let figures = c.figures;
+    let counted = frame_sent(figures, matched);
+    e.figures = counted;
     e
 }

@@ -135,13 +135,13 @@ module _ (H X W Y : List ℕ) (level : length W ≡ length H) where
       → l .from + n .restorable + p + 128 ≤ length H → l .from + n .restorable + q + 128 ≤ length H → e ≡ l .from + n .restorable + q + 128
       → (inPlace S a ≡ true → movesAt v p q ≡ noMoves)
       → (inPlace S a ≡ false → Tried S a 0 (movesAt v p q .front) × Tried S (l .from + n .restorable + 128) 1 (movesAt v p q .second) × Tried S (l .from + n .restorable + p + 128) 2 (movesAt v p q .third -ℤ movesAt v p q .second))
-      → n .reliabilities ≡ drop (l .from) W → Stood S T (n .soft) a (frameAt v n p q) e
+      → n .reliabilities ≡ drop (l .from) W → Stood S T (n .figures .soft) a (frameAt v n p q) e
   unfolding frameAt
   stands a v n l p q e h hp hq he still found beside =
       let b = l .from + n .restorable in
       let long = length-append W Y in
       let ew : drop (n .restorable) (n .reliabilities) ≡ drop b W = slide W (n .reliabilities) (l .from) (n .restorable) (l .from) beside refl in
-      let r = weighs (n .soft) T b (b + p) (b + q) (cut (drop (n .restorable) (n .reliabilities)) p q) (cut-segments W Y _ b p q ew (omega arith) (omega arith) (omega arith)) (omega arith) (omega arith) (omega arith) in
+      let r = weighs (n .figures .soft) T b (b + p) (b + q) (cut (drop (n .restorable) (n .reliabilities)) p q) (cut-segments W Y _ b p q ew (omega arith) (omega arith) (omega arith)) (omega arith) (omega arith) (omega arith) in
       record {
         stands = record {
           first = b;
@@ -170,7 +170,7 @@ module _ (H X W Y : List ℕ) (level : length W ≡ length H) where
     as-there : a + 384 ≤ length H → inPlace (pending m) 0 ≡ inPlace S a
     as-there h = ap (λ (z : List ℕ). inPlace z 0) (lies-pending H (m .held) (m .restorable) l) ∙ same-in-place (drop a H) 0 S a (seen H X 272 a 0 a (omega arith) (omega arith))
 
-    in-place-stands : a + 384 ≤ length H → inPlace S a ≡ true → (e : ℕ) → Bal e (sendAt Stay m 128 256 .next) → Stood S T (m .soft) a (sendAt Stay m 128 256 .frame) e
+    in-place-stands : a + 384 ≤ length H → inPlace S a ≡ true → (e : ℕ) → Bal e (sendAt Stay m 128 256 .next) → Stood S T (m .figures .soft) a (sendAt Stay m 128 256 .frame) e
     unfolding sendAt leave inBits laters earliers
     in-place-stands h t e be = stands a Stay m l 128 256 e (omega arith) (omega arith) (omega arith) (omega arith) (λ u. refl) (λ w. absurd (true≢false (sym t ∙ w))) beside
 
@@ -197,8 +197,8 @@ module _ (H X W Y : List ℕ) (level : length W ≡ length H) where
         subst (Tried S (b + secondAt n + 128) 2) (front-told (thirdShift n) 0 0 ∙ sym (further-told v (secondShift n) (thirdShift n)))
         (looked-for (pending n) b e (secondAt n + 128) (b + secondAt n + 128) 2 (omega arith) (omega arith) (omega arith))
 
-    shifted-stands : (v : Move) (n : State) (f : Fronts H m a n) → (n .later ≡ m .later + laters v) × (n .earlier ≡ m .earlier + earliers v) → a + 390 ≤ length H → inPlace S a ≡ false → Tried S a 0 (inBits v)
-        → (e : ℕ) → Bal e (sendShifted v n .next) → Stood S T (m .soft) a (sendShifted v n .frame) e
+    shifted-stands : (v : Move) (n : State) (f : Fronts H m a n) → (n .figures .later ≡ m .figures .later + laters v) × (n .figures .earlier ≡ m .figures .earlier + earliers v) → a + 390 ≤ length H → inPlace S a ≡ false → Tried S a 0 (inBits v)
+        → (e : ℕ) → Bal e (sendShifted v n .next) → Stood S T (m .figures .soft) a (sendShifted v n .frame) e
     unfolding sendShifted sendAt leave counted
     shifted-stands v n f c h w first e be =
         let x = secondShift n in
@@ -216,12 +216,12 @@ module _ (H X W Y : List ℕ) (level : length W ≡ length H) where
         (stands a v (counted u (counted x n)) (f .lies) (secondAt n) (thirdAt n) e (omega (arith, c .0, c .1)) (omega arith) (omega arith) (omega arith) (λ t. absurd (true≢false (sym t ∙ w)))
         (λ t. (first, second-looked-for v n b ln (omega arith), third-looked-for v n b ln (omega arith))) (f .beside W (l .from) refl beside))
 
-    frame-stands : IsReady m → Whole a m → (e : ℕ) → Bal e (send m .next) → Stood S T (m .soft) a (send m .frame) e
+    frame-stands : IsReady m → Whole a m → (e : ℕ) → Bal e (send m .next) → Stood S T (m .figures .soft) a (send m .frame) e
     unfolding send
     frame-stands r whole =
         let n : length (pending m) ≡ length H - a = lies-length H (m .held) (m .restorable) l in
         let g = r .enough in
-        cond-cases (λ (s : Sent). (e : ℕ) → Bal e (s .next) → Stood S T (m .soft) a (s .frame) e) (inPlace (pending m) 0) (sendAt Stay m 128 256) (sendShifted (frontMove m) (follow (frontMove m) m))
+        cond-cases (λ (s : Sent). (e : ℕ) → Bal e (s .next) → Stood S T (m .figures .soft) a (s .frame) e) (inPlace (pending m) 0) (sendAt Stay m 128 256) (sendShifted (frontMove m) (follow (frontMove m) m))
         (λ t. in-place-stands (omega arith) (sym (as-there (omega arith)) ∙ t))
         (λ w. let k : 392 ≤ length (pending m) = r .more w in
         let h : a + 2 ≤ length H = omega arith in
@@ -245,31 +245,31 @@ module _ (H X W Y : List ℕ) (level : length W ≡ length H) where
       (λ w k bk. here-beside m l bal beside k bk)
 
   drain-way : (n : ℕ) (m : State) (l : Lies H (m .held) (m .restorable)) → Bal (l .from + m .restorable) m → Whole (l .from + m .restorable) m → m .reliabilities ≡ drop (l .from) W
-      → (e : ℕ) → Bal e (drain n m .next) → Way S T (l .from + m .restorable) (m .clock) e (drain n m .next .clock) (drain n m .sent) 0
+      → (e : ℕ) → Bal e (drain n m .next) → Way S T (l .from + m .restorable) (m .figures .clock) e (drain n m .next .figures .clock) (drain n m .sent) 0
   unfolding drain
   drain-way zero m l bal whole beside = λ e be. here S T _ _ e _ (same-place _ e m bal be) refl
   drain-way (suc n) m l bal whole beside =
-      cond-cases (λ (o : Out). (e : ℕ) → Bal e (o .next) → Way S T (l .from + m .restorable) (m .clock) e (o .next .clock) (o .sent) 0) (ready m) _ _
+      cond-cases (λ (o : Out). (e : ℕ) → Bal e (o .next) → Way S T (l .from + m .restorable) (m .figures .clock) e (o .next .figures .clock) (o .sent) 0) (ready m) _ _
       (λ t e be. let r = is-ready m t in
       let s = sends H m l r in
       let b = s .lies .from + send m .next .restorable in
-      then S T (showing S T _ (m .clock) b (send m .next .clock) (send m .frame) (frame-stands m l bal beside r whole b (s .balance bal) .stands) (s .offset) (sym (s .clock)))
+      then S T (showing S T _ (m .figures .clock) b (send m .next .figures .clock) (send m .frame) (frame-stands m l bal beside r whole b (s .balance bal) .stands) (s .offset) (sym (s .clock)))
       (drain-way n (send m .next) (s .lies) (s .balance bal) (omega (arith, s .two)) (s .beside W (l .from) refl beside) e be))
       (λ w e be. here S T _ _ e _ (same-place _ e m bal be) refl)
 
   -- its frames have reliabilities by the soft mark
-  pub drain-marked : (n : ℕ) (m : State) (l : Lies H (m .held) (m .restorable)) → Bal (l .from + m .restorable) m → Whole (l .from + m .restorable) m → m .reliabilities ≡ drop (l .from) W → Marked (m .soft) (drain n m .sent)
+  pub drain-marked : (n : ℕ) (m : State) (l : Lies H (m .held) (m .restorable)) → Bal (l .from + m .restorable) m → Whole (l .from + m .restorable) m → m .reliabilities ≡ drop (l .from) W → Marked (m .figures .soft) (drain n m .sent)
   unfolding drain Marked
   drain-marked zero m l bal whole beside = tt
   drain-marked (suc n) m l bal whole beside =
-      cond-cases (λ (o : Out). Marked (m .soft) (o .sent)) (ready m) _ _
+      cond-cases (λ (o : Out). Marked (m .figures .soft) (o .sent)) (ready m) _ _
       (λ t. let r = is-ready m t in
       let s = sends H m l r in
       (frame-stands m l bal beside r whole _ (s .balance bal) .many, subst (λ (b : Bool). Marked b (drain n (send m .next) .sent)) (s .soft) (drain-marked n (send m .next) (s .lies) (s .balance bal) (omega (arith, s .two)) (s .beside W (l .from) refl beside))))
       (λ w. tt)
 
 -- ---- pushes
-brought-clock : (x : Input) (m : State) → bring x m .clock ≡ m .clock
+brought-clock : (x : Input) (m : State) → bring x m .figures .clock ≡ m .figures .clock
 unfolding bring
 brought-clock x m = refl
 
@@ -302,39 +302,39 @@ module _ (H W : List ℕ) (x : Input) (m : State) (i : Inv H m) (level : length 
       let j = inv-step H x m i in
       drain-beside (H ++ two x) [] (W ++ two-weights x) [] (both-longer H W x level) 3 (search (bring x m)) (s .lies) (s .balance (brought-bal H x m i)) searched-beside (j .lies .from) (j .balance)
 
-  pub stepped-marked : Marked (search (bring x m) .soft) (step x m .sent)
+  pub stepped-marked : Marked (search (bring x m) .figures .soft) (step x m .sent)
   unfolding step
   stepped-marked =
       let s = inv-search H x m i in
       drain-marked (H ++ two x) [] (W ++ two-weights x) [] (both-longer H W x level) 3 (search (bring x m)) (s .lies) (s .balance (brought-bal H x m i)) (s .whole (brought-whole H x m i)) searched-beside
 
-search-way : (S T H : List ℕ) (x : Input) (m : State) (i : Inv H m) → Way S T (i .lies .from + m .restorable) (m .clock) (inv-search H x m i .lies .from + search (bring x m) .restorable) (search (bring x m) .clock) [] (passedBy x m)
+search-way : (S T H : List ℕ) (x : Input) (m : State) (i : Inv H m) → Way S T (i .lies .from + m .restorable) (m .figures .clock) (inv-search H x m i .lies .from + search (bring x m) .restorable) (search (bring x m) .figures .clock) [] (passedBy x m)
 search-way S T H x m i =
     let s = inv-search H x m i in
-    let c : bring x m .clock ≡ m .clock = brought-clock x m in
+    let c : bring x m .figures .clock ≡ m .figures .clock = brought-clock x m in
     let N = search (bring x m) in
     let a = i .lies .from + m .restorable in
     let b = s .lies .from + N .restorable in
     let k : passedBy x m ≡ b - a = omega (arith, brought-length x m H i, lies-length (H ++ two x) (N .held) (N .restorable) (s .lies), s .lies .fits, s .further) in
-    passing S T a (m .clock) b (N .clock) (passedBy x m) (omega (arith, s .further)) (omega (arith, s .clock, s .further))
+    passing S T a (m .figures .clock) b (N .figures .clock) (passedBy x m) (omega (arith, s .further)) (omega (arith, s .clock, s .further))
 
 step-way : (H X W Y : List ℕ) (x : Input) (m : State) (i : Inv H m) → length W ≡ length H → m .reliabilities ≡ drop (i .lies .from) W → (e : ℕ) → Bal e (step x m .next)
-    → Way ((H ++ two x) ++ X) ((W ++ two-weights x) ++ Y) (i .lies .from + m .restorable) (m .clock) e (step x m .next .clock) (step x m .sent) (passedBy x m)
+    → Way ((H ++ two x) ++ X) ((W ++ two-weights x) ++ Y) (i .lies .from + m .restorable) (m .figures .clock) e (step x m .next .figures .clock) (step x m .sent) (passedBy x m)
 unfolding step
 step-way H X W Y x m i level beside e be =
     let s = inv-search H x m i in
     let S = (H ++ two x) ++ X in
     let T = (W ++ two-weights x) ++ Y in
-    subst (λ (p : ℕ). Way S T (i .lies .from + m .restorable) (m .clock) e (step x m .next .clock) (step x m .sent) p) (omega arith)
+    subst (λ (p : ℕ). Way S T (i .lies .from + m .restorable) (m .figures .clock) e (step x m .next .figures .clock) (step x m .sent) p) (omega arith)
     (then S T {fs = []} (search-way S T H x m i)
     (drain-way (H ++ two x) X (W ++ two-weights x) Y (both-longer H W x level) 3 (search (bring x m)) (s .lies) (s .balance (brought-bal H x m i)) (s .whole (brought-whole H x m i)) (searched-beside H W x m i level beside) e be))
 
 Ends : List Input → State → ℕ → List ℕ → List ℕ → Type 0
-Ends xs m a S T = (e : ℕ) → Bal e (run xs m .next) → Way S T a (m .clock) e (run xs m .next .clock) (run xs m .sent) (searched xs m)
+Ends xs m a S T = (e : ℕ) → Bal e (run xs m .next) → Way S T a (m .figures .clock) e (run xs m .next .figures .clock) (run xs m .sent) (searched xs m)
 
 run-way : (xs : List Input) (H W : List ℕ) (m : State) (i : Inv H m) → length W ≡ length H → m .reliabilities ≡ drop (i .lies .from) W → Ends xs m (i .lies .from + m .restorable) (H ++ stream xs) (W ++ weights xs)
 unfolding run searched Ends
-run-way [] H W m i level beside = λ e be. here (H ++ stream []) (W ++ weights []) (i .lies .from + m .restorable) (m .clock) e (m .clock) (omega (arith, i .balance)) refl
+run-way [] H W m i level beside = λ e be. here (H ++ stream []) (W ++ weights []) (i .lies .from + m .restorable) (m .figures .clock) e (m .figures .clock) (omega (arith, i .balance)) refl
 run-way (x ∷ xs) H W m i level beside =
     subst (λ (S : List ℕ). Ends (x ∷ xs) m (i .lies .from + m .restorable) S (W ++ weights (x ∷ xs))) (sym (stream-on H x xs))
     (subst (Ends (x ∷ xs) m (i .lies .from + m .restorable) ((H ++ two x) ++ stream xs)) (sym (weights-on W x xs))
@@ -360,7 +360,7 @@ account-rule xs =
     let m = stateAfter xs in
     let b = i .lies .from + m .restorable in
     let z : inv-start .lies .from + start .restorable ≡ 0 = omega (arith, inv-start .balance) in
-    let w : Way (stream xs) (weights xs) 0 0 b (m .clock) (run xs start .sent) (searched xs start) =
-    subst (λ (a : ℕ). Way (stream xs) (weights xs) a 0 b (m .clock) (run xs start .sent) (searched xs start)) z
+    let w : Way (stream xs) (weights xs) 0 0 b (m .figures .clock) (run xs start .sent) (searched xs start) =
+    subst (λ (a : ℕ). Way (stream xs) (weights xs) a 0 b (m .figures .clock) (run xs start .sent) (searched xs start)) z
     (run-way xs [] [] start inv-start refl none-beside b (i .balance)) in
-    record { way = w .way; leads = subst (λ (b : ℕ). Leads (stream xs) (weights xs) 0 0 (w .way) b (m .clock)) (sym (place-is xs i)) (w .leads); frames = w .frames ∙ sym (sent-start xs); gaps = w .gaps }
+    record { way = w .way; leads = subst (λ (b : ℕ). Leads (stream xs) (weights xs) 0 0 (w .way) b (m .figures .clock)) (sym (place-is xs i)) (w .leads); frames = w .frames ∙ sym (sent-start xs); gaps = w .gaps }

@@ -93,9 +93,9 @@ after-lock xs H m a c k r h row fits later =
     ap (take k) (figures-append (drain 3 m .sent) (run xs (drain 3 m .next) .sent))
     ∙ drained 3 k H (stream xs) m a c (figures (run xs (drain 3 m .next) .sent)) r h row fits later
 
-keeps-lock : (m : State) → m .locked ≡ true → search m ≡ m
+keeps-lock : (m : State) → m .figures .locked ≡ true → search m ≡ m
 unfolding search
-keeps-lock m t = sym (cond-yes (m .locked) (m .locked) m _ refl t)
+keeps-lock m t = sym (cond-yes (m .figures .locked) (m .figures .locked) m _ refl t)
 
 rides-more : (H : List ℕ) (x : Input) (m : State) (a c : ℕ) → Riding H m a c → Riding (H ++ two x) (search (bring x m)) a c
 unfolding bring lies-more
@@ -162,22 +162,22 @@ pub record Lost (o : Out) : Type 0 where
   pub first : Frame
   pub rest : List Frame
   pub sent : o .sent ≡ first ∷ rest
-  pub clock : o .next .clock ≡ lastOffset (first .offset) rest + 384
+  pub clock : o .next .figures .clock ≡ lastOffset (first .offset) rest + 384
 
 -- the clock after frames is the last one's offset and 384
-pub last-clock : (n : ℕ) (H : List ℕ) (m : State) (l : Lies H (m .held) (m .restorable)) (d : ℕ) → m .clock ≡ d + 384 → drain n m .next .clock ≡ lastOffset d (drain n m .sent) + 384
+pub last-clock : (n : ℕ) (H : List ℕ) (m : State) (l : Lies H (m .held) (m .restorable)) (d : ℕ) → m .figures .clock ≡ d + 384 → drain n m .next .figures .clock ≡ lastOffset d (drain n m .sent) + 384
 unfolding drain lastOffset
 last-clock zero H m l d e = e
 last-clock (suc n) H m l d e =
-    cond-cases (λ (o : Out). o .next .clock ≡ lastOffset d (o .sent) + 384) (ready m) _ _
+    cond-cases (λ (o : Out). o .next .figures .clock ≡ lastOffset d (o .sent) + 384) (ready m) _ _
     (λ t. let s = sends H m l (is-ready m t) in last-clock n H (send m .next) (s .lies) (send m .frame .offset) (s .clock ∙ ap (λ (z : ℕ). z + 384) (sym (s .offset))))
     (λ w. e)
 
-loses : (n : ℕ) (H : List ℕ) (m : State) (l : Lies H (m .held) (m .restorable)) → m .locked ≡ true → drain n m .next .locked ≡ false → Lost (drain n m)
+loses : (n : ℕ) (H : List ℕ) (m : State) (l : Lies H (m .held) (m .restorable)) → m .figures .locked ≡ true → drain n m .next .figures .locked ≡ false → Lost (drain n m)
 unfolding drain
 loses zero H m l t = λ w. absurd (true≢false (sym t ∙ w))
 loses (suc n) H m l t =
-    cond-cases (λ (o : Out). o .next .locked ≡ false → Lost o) (ready m) _ _
+    cond-cases (λ (o : Out). o .next .figures .locked ≡ false → Lost o) (ready m) _ _
     (λ r w. let s = sends H m l (is-ready m r) in
     record { first = send m .frame; rest = drain n (send m .next) .sent; sent = refl; clock = last-clock n H (send m .next) (s .lies) (send m .frame .offset) (s .clock ∙ ap (λ (z : ℕ). z + 384) (sym (s .offset))) })
     (λ v w. absurd (true≢false (sym t ∙ w)))
@@ -198,14 +198,14 @@ place-is xs i = omega (arith, lies-length (stream xs) (run xs start .next .held)
 
 -- no lock, and the clock is where the first frame's offset is counted from
 pub record Begun (before : List Input) : Type 0 where
-  pub shut : run before start .next .locked ≡ false
-  pub offset : (q : ℕ) → firstOffset (sentBy [] before) (placeOf before) q ≡ run before start .next .clock + (q - placeOf before)
+  pub shut : run before start .next .figures .locked ≡ false
+  pub offset : (q : ℕ) → firstOffset (sentBy [] before) (placeOf before) q ≡ run before start .next .figures .clock + (q - placeOf before)
 
 lost-step : (H : List ℕ) (x : Input) (m : State) → Inv H m → Loses x m → Lost (step x m)
 unfolding Loses step
 lost-step H x m i lost = loses 3 (H ++ two x) (search (bring x m)) (inv-search H x m i .lies) (lost .0) (lost .1)
 
-unlocked : (x : Input) (m : State) → Loses x m → step x m .next .locked ≡ false
+unlocked : (x : Input) (m : State) → Loses x m → step x m .next .figures .locked ≡ false
 unfolding Loses
 unlocked x m lost = lost .1
 
@@ -224,10 +224,10 @@ begun-lost xs x lost =
     let P = placeOf (xs ++ (x ∷ [])) in
     let nx = more-next xs x in
     record {
-      shut = ap (λ (m : State). m .locked) nx ∙ unlocked x (run xs start .next) lost;
+      shut = ap (λ (m : State). m .figures .locked) nx ∙ unlocked x (run xs start .next) lost;
       offset = λ q. ap (λ (l : List Frame). firstOffset l P q) (more-sent xs x ∙ ap (λ (l : List Frame). run xs start .sent ++ l) (L .sent))
           ∙ first-append (run xs start .sent) (L .first) (L .rest) P q
-          ∙ ap (λ (n : ℕ). n + (q - P)) (sym (L .clock) ∙ sym (ap (λ (m : State). m .clock) nx));
+          ∙ ap (λ (n : ℕ). n + (q - P)) (sym (L .clock) ∙ sym (ap (λ (m : State). m .figures .clock) nx));
     }
 
 begun-start : Begun []
@@ -244,7 +244,7 @@ module _ (before : List Input) (b : Begun before) where
   abbrev m : State
   m = run before start .next
 
-  hunts : (q : ℕ) → placeOf before ≤ q → Hunting (stream before) m (placeOf before) (m .clock) q
+  hunts : (q : ℕ) → placeOf before ≤ q → Hunting (stream before) m (placeOf before) (m .figures .clock) q
   hunts q h =
       let i = reached before in
       let e = place-is before i in
@@ -252,11 +252,11 @@ module _ (before : List Input) (b : Begun before) where
 
   pub quiet : (after : List Input) (q : ℕ) → placeOf before ≤ q → Quiet (sentBy before after) (placeOf before) q (stream (before ++ after))
   unfolding sentBy
-  quiet after q h = subst (Quiet (run after m .sent) (placeOf before) q) (sym (stream-append before after)) (hunt-quiet after (stream before) m (placeOf before) (m .clock) q (hunts q h))
+  quiet after q h = subst (Quiet (run after m .sent) (placeOf before) q) (sym (stream-append before after)) (hunt-quiet after (stream before) m (placeOf before) (m .figures .clock) q (hunts q h))
 
-  pub comes : (after : List Input) (q k : ℕ) → placeOf before ≤ q → Comes (sentBy before after) (placeOf before) (m .clock) q k (stream (before ++ after))
+  pub comes : (after : List Input) (q k : ℕ) → placeOf before ≤ q → Comes (sentBy before after) (placeOf before) (m .figures .clock) q k (stream (before ++ after))
   unfolding sentBy
-  comes after q k h = subst (Comes (run after m .sent) (placeOf before) (m .clock) q k) (sym (stream-append before after)) (hunt-run after (stream before) m (placeOf before) (m .clock) q k (hunts q h))
+  comes after q k h = subst (Comes (run after m .sent) (placeOf before) (m .figures .clock) q k) (sym (stream-append before after)) (hunt-run after (stream before) m (placeOf before) (m .figures .clock) q k (hunts q h))
 
   pub place-low : placeOf before ≤ length (stream before)
   place-low = let i = reached before in omega (arith, place-is before i, i .lies .fits)

@@ -48,8 +48,8 @@ first-missing f p (suc n) w =
 -- ---- the states that pushes reach
 pub record Inv (H : List ℕ) (m : State) : Type 0 where
   pub lies : Lies H (m .held) (m .restorable)
-  pub low : m .locked ≡ false → length H ≤ lies .from + m .restorable + 1151
-  pub high : m .locked ≡ true → length H ≤ lies .from + m .restorable + 391
+  pub low : m .figures .locked ≡ false → length H ≤ lies .from + m .restorable + 1151
+  pub high : m .figures .locked ≡ true → length H ≤ lies .from + m .restorable + 391
   pub balance : Bal (lies .from + m .restorable) m
   pub whole : Whole (lies .from + m .restorable) m
 
@@ -59,19 +59,19 @@ two x = x .dibit / 2 ∷ x .dibit % 2 ∷ []
 -- a search from place a on, of a state whose clock is c
 pub record Searches (H : List ℕ) (m : State) (a : ℕ) (n : State) : Type 0 where
   pub lies : Lies H (n .held) (n .restorable)
-  pub low : n .locked ≡ false → length H ≤ lies .from + n .restorable + 1151
-  pub high : n .locked ≡ true → length H ≤ lies .from + n .restorable + 1153
-  pub clock : n .clock + a ≡ m .clock + (lies .from + n .restorable)
+  pub low : n .figures .locked ≡ false → length H ≤ lies .from + n .restorable + 1151
+  pub high : n .figures .locked ≡ true → length H ≤ lies .from + n .restorable + 1153
+  pub clock : n .figures .clock + a ≡ m .figures .clock + (lies .from + n .restorable)
   pub further : a ≤ lies .from + n .restorable
   pub balance : Bal a m → Bal (lies .from + n .restorable) n
   pub whole : Whole a m → Whole (lies .from + n .restorable) n
   pub beside : Beside m a n (lies .from)
-  pub frames : n .frames ≡ m .frames
-  pub soft : n .soft ≡ m .soft
-  pub failures : n .locked ≡ true → m .locked ≡ false → n .failures ≡ 0
-  pub keeps : m .locked ≡ true → n ≡ m
+  pub frames : n .figures .frames ≡ m .figures .frames
+  pub soft : n .figures .soft ≡ m .figures .soft
+  pub failures : n .figures .locked ≡ true → m .figures .locked ≡ false → n .figures .failures ≡ 0
+  pub keeps : m .figures .locked ≡ true → n ≡ m
 
-pub searches-at : (H : List ℕ) (m : State) (l : Lies H (m .held) (m .restorable)) → m .locked ≡ false → length H ≤ l .from + m .restorable + 1153
+pub searches-at : (H : List ℕ) (m : State) (l : Lies H (m .held) (m .restorable)) → m .figures .locked ≡ false → length H ≤ l .from + m .restorable + 1153
     → (p : ℕ) → p ≤ tries m → Searches H m (l .from + m .restorable) (searchAt m p)
 unfolding searchAt pass tries lies-pass
 searches-at H m l shut few p h =
@@ -89,7 +89,7 @@ searches-at H m l shut few p h =
       beside = λ W k e v. slide W (m .reliabilities) k _ (l .from) v (omega arith);
       frames = refl;
       soft = refl;
-      failures = λ t w. ap (λ (b : Bool). cond b 0 (m .failures)) t;
+      failures = λ t w. ap (λ (b : Bool). cond b 0 (m .figures .failures)) t;
       keeps = λ t. absurd (true≢false (sym t ∙ shut));
     }
 
@@ -97,15 +97,15 @@ searches-at H m l shut few p h =
 from-first : (f : ℕ → Bool) (p n : ℕ) → p ≤ 0 → firstOf f p n ≤ n
 from-first f p n h = omega (arith, first-le f p n)
 
-pub searches : (H : List ℕ) (m : State) (l : Lies H (m .held) (m .restorable)) → (m .locked ≡ false → length H ≤ l .from + m .restorable + 1153) → (m .locked ≡ true → length H ≤ l .from + m .restorable + 393) → Searches H m (l .from + m .restorable) (search m)
+pub searches : (H : List ℕ) (m : State) (l : Lies H (m .held) (m .restorable)) → (m .figures .locked ≡ false → length H ≤ l .from + m .restorable + 1153) → (m .figures .locked ≡ true → length H ≤ l .from + m .restorable + 393) → Searches H m (l .from + m .restorable) (search m)
 unfolding search
 searches H m l low high =
-    cond-cases (λ n. Searches H m (l .from + m .restorable) n) (m .locked) m _
+    cond-cases (λ n. Searches H m (l .from + m .restorable) n) (m .figures .locked) m _
     (λ t. record { lies = l; low = λ w. absurd (true≢false (sym t ∙ w)); high = λ v. omega (arith, high t); clock = refl; further = omega arith; balance = λ e. e; whole = λ e. e; beside = here H m l; frames = refl; soft = refl; failures = λ v w. absurd (true≢false (sym t ∙ w)); keeps = λ v. refl })
     (λ w. searches-at H m l w (low w) _ (from-first _ _ _ (omega arith)))
 
 -- frames: what is left once up to n of them went out
-pub drains : (H : List ℕ) (n : ℕ) → n ≤ 3 → (m : State) (l : Lies H (m .held) (m .restorable)) → (m .locked ≡ false → length H ≤ l .from + m .restorable + 1151) → (m .locked ≡ true → length H ≤ l .from + m .restorable + (391 + 378 * n)) → Bal (l .from + m .restorable) m → Whole (l .from + m .restorable) m → Inv H (drain n m .next)
+pub drains : (H : List ℕ) (n : ℕ) → n ≤ 3 → (m : State) (l : Lies H (m .held) (m .restorable)) → (m .figures .locked ≡ false → length H ≤ l .from + m .restorable + 1151) → (m .figures .locked ≡ true → length H ≤ l .from + m .restorable + (391 + 378 * n)) → Bal (l .from + m .restorable) m → Whole (l .from + m .restorable) m → Inv H (drain n m .next)
 unfolding drain
 drains H zero k m l low high bal whole = record { lies = l; low = low; high = λ t. omega (arith, high t); balance = bal; whole = whole }
 drains H (suc n) k m l low high bal whole =

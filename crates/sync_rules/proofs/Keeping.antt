@@ -52,11 +52,11 @@ first-found f p (suc n) = cond-cases (λ (r : ℕ). r < p + suc n → f r ≡ tr
 pub record Found (m : State) : Type 0 where
   pub shown : shows (pending m) 0 ≡ true
   pub many : 1152 ≤ length (pending m)
-  pub locked : m .locked ≡ true
-  pub failures : m .failures ≡ 0
+  pub locked : m .figures .locked ≡ true
+  pub failures : m .figures .failures ≡ 0
 
 module _ (m : State) where
-  found-at : (p : ℕ) → (p < tries m → locksAt (pending m) p ≡ true) → searchAt m p .locked ≡ true → Found (searchAt m p)
+  found-at : (p : ℕ) → (p < tries m → locksAt (pending m) p ≡ true) → searchAt m p .figures .locked ≡ true → Found (searchAt m p)
   unfolding searchAt tries locksAt pass
   found-at p there t =
       let h = ltb-true p (tries m) t in
@@ -65,13 +65,13 @@ module _ (m : State) where
         shown = ap (λ (l : List ℕ). shows l 0) e ∙ shows-behind (pending m) p 0 p (omega arith) ∙ both-true (shows (pending m) p) _ (there h) .0;
         many = omega (arith, ap length e, length-drop p (pending m));
         locked = t;
-        failures = ap (λ (b : Bool). cond b 0 (m .failures)) t;
+        failures = ap (λ (b : Bool). cond b 0 (m .figures .failures)) t;
       }
 
-  pub found : m .locked ≡ false → search m .locked ≡ true → Found (search m)
+  pub found : m .figures .locked ≡ false → search m .figures .locked ≡ true → Found (search m)
   found shut =
       let p = firstOf (locksAt (pending m)) 0 (tries m) in
-      subst (λ (n : State). n .locked ≡ true → Found n) (sym (search-at m p shut refl))
+      subst (λ (n : State). n .figures .locked ≡ true → Found n) (sym (search-at m p shut refl))
       (found-at p (λ h. first-found (locksAt (pending m)) 0 (tries m) (omega arith)))
 
 -- ---- the first frame of a lock shows two markers
@@ -193,20 +193,20 @@ module _ (m : State) (shown : shows (pending m) 0 ≡ true) where
 
 -- ---- a frame with two markers leaves a lock and no failure; any other one failure more, and a lock unless that is the third
 record Leaves (m : State) (s : Sent) : Type 0 where
-  good : s .frame .matched ≡ true → (s .next .failures ≡ 0) × (s .next .locked ≡ true)
-  one : s .next .failures ≤ m .failures + 1
-  locked : m .failures ≤ 1 → s .next .locked ≡ true
+  good : s .frame .matched ≡ true → (s .next .figures .failures ≡ 0) × (s .next .figures .locked ≡ true)
+  one : s .next .figures .failures ≤ m .figures .failures + 1
+  locked : m .figures .failures ≤ 1 → s .next .figures .locked ≡ true
 
-at-leaves : (v : Move) (m n : State) (p q : ℕ) → n .failures ≡ m .failures → Leaves m (sendAt v n p q)
+at-leaves : (v : Move) (m n : State) (p q : ℕ) → n .figures .failures ≡ m .figures .failures → Leaves m (sendAt v n p q)
 unfolding sendAt leave
 at-leaves v m n p q e =
     record {
-      good = λ t. (ap (λ (b : Bool). cond b 0 (n .failures + 1)) t, sym (cond-yes (frameAt v n p q .matched) (frameAt v n p q .matched) true _ refl t));
-      one = cond-cases (λ (k : ℕ). k ≤ m .failures + 1) (frameAt v n p q .matched) 0 (n .failures + 1) (λ t. omega arith) (λ w. omega arith);
-      locked = λ h. cond-cases (λ (b : Bool). b ≡ true) (frameAt v n p q .matched) true _ (λ t. refl) (λ w. lt-ltb (n .failures + 1) _ (omega arith));
+      good = λ t. (ap (λ (b : Bool). cond b 0 (n .figures .failures + 1)) t, sym (cond-yes (frameAt v n p q .matched) (frameAt v n p q .matched) true _ refl t));
+      one = cond-cases (λ (k : ℕ). k ≤ m .figures .failures + 1) (frameAt v n p q .matched) 0 (n .figures .failures + 1) (λ t. omega arith) (λ w. omega arith);
+      locked = λ h. cond-cases (λ (b : Bool). b ≡ true) (frameAt v n p q .matched) true _ (λ t. refl) (λ w. lt-ltb (n .figures .failures + 1) _ (omega arith));
     }
 
-front-failures : (v : Move) (m : State) → follow v m .failures ≡ m .failures
+front-failures : (v : Move) (m : State) → follow v m .figures .failures ≡ m .figures .failures
 unfolding follow counted pass restore
 front-failures Stay m = refl
 front-failures Later m = refl
@@ -219,68 +219,68 @@ leaves m =
     (λ w. let n = follow (frontMove m) m in at-leaves (frontMove m) m (counted (thirdShift n) (counted (secondShift n) n)) (secondAt n) (thirdAt n) (front-failures (frontMove m) m))
 
 -- ---- pushes
-keeps : (n : ℕ) (m : State) → m .locked ≡ true → m .failures + n ≤ 2 → drain n m .next .locked ≡ true
+keeps : (n : ℕ) (m : State) → m .figures .locked ≡ true → m .figures .failures + n ≤ 2 → drain n m .next .figures .locked ≡ true
 unfolding drain
 keeps zero m t h = t
 keeps (suc n) m t h =
     let l = leaves m in
-    cond-cases (λ (o : Out). o .next .locked ≡ true) (ready m) _ _ (λ r. keeps n (send m .next) (l .locked (omega arith)) (omega (arith, l .one))) (λ w. t)
+    cond-cases (λ (o : Out). o .next .figures .locked ≡ true) (ready m) _ _ (λ r. keeps n (send m .next) (l .locked (omega arith)) (omega (arith, l .one))) (λ w. t)
 
-first-keeps : (m : State) → Found m → drain 3 m .next .locked ≡ true
+first-keeps : (m : State) → Found m → drain 3 m .next .figures .locked ≡ true
 unfolding drain
 first-keeps m f =
     let g = leaves m .good (first-shows m (f .shown)) in
-    cond-cases (λ (o : Out). o .next .locked ≡ true) (ready m) _ _ (λ r. keeps 2 (send m .next) (g .1) (omega (arith, g .0))) (λ w. f .locked)
+    cond-cases (λ (o : Out). o .next .figures .locked ≡ true) (ready m) _ _ (λ r. keeps 2 (send m .next) (g .1) (omega (arith, g .0))) (λ w. f .locked)
 
-brought-locked : (x : Input) (m : State) → bring x m .locked ≡ m .locked
+brought-locked : (x : Input) (m : State) → bring x m .figures .locked ≡ m .figures .locked
 unfolding bring
 brought-locked x m = refl
 
 -- a push that takes a lock hands it back
-pub taken-kept : (x : Input) (m : State) → m .locked ≡ false → search (bring x m) .locked ≡ true → step x m .next .locked ≡ true
+pub taken-kept : (x : Input) (m : State) → m .figures .locked ≡ false → search (bring x m) .figures .locked ≡ true → step x m .next .figures .locked ≡ true
 unfolding step
 taken-kept x m w t = first-keeps (search (bring x m)) (found (bring x m) (brought-locked x m ∙ w) t)
 
 -- one that ends a lock found it there
-pub found-it : (x : Input) (m : State) → Loses x m → m .locked ≡ true
+pub found-it : (x : Input) (m : State) → Loses x m → m .figures .locked ≡ true
 unfolding Loses
-found-it x m lost = go (m .locked) refl
+found-it x m lost = go (m .figures .locked) refl
   where
-    go : (b : Bool) → m .locked ≡ b → m .locked ≡ true
+    go : (b : Bool) → m .figures .locked ≡ b → m .figures .locked ≡ true
     go true t = t
     go false w = absurd (true≢false (sym (taken-kept x m w (lost .0)) ∙ lost .1))
 
 -- one that takes a lock sends a frame: with none there is no lock
 found-ready : (m : State) → Found m → ready m ≡ true
 unfolding ready
-found-ready m f = all (m .locked) (leb _ (length (pending m))) (inPlace (pending m) 0) (leb _ (length (pending m))) (f .locked) (le-leb _ (length (pending m)) (omega (arith, f .many))) (le-leb _ (length (pending m)) (omega (arith, f .many)))
+found-ready m f = all (m .figures .locked) (leb _ (length (pending m))) (inPlace (pending m) 0) (leb _ (length (pending m))) (f .locked) (le-leb _ (length (pending m)) (omega (arith, f .many))) (le-leb _ (length (pending m)) (omega (arith, f .many)))
   where
     all : (a b c d : Bool) → a ≡ true → b ≡ true → d ≡ true → (a && (b && (c || d))) ≡ true
     all a b true d p q r = ap₂ (λ (i j : Bool). i && (j && true)) p q
     all a b false d p q r = ap₂ (λ (i j : Bool). i && (j && d)) p q ∙ r
 
-pub quiet-shut : (x : Input) (m : State) → m .locked ≡ false → step x m .sent ≡ [] → step x m .next .locked ≡ false
+pub quiet-shut : (x : Input) (m : State) → m .figures .locked ≡ false → step x m .sent ≡ [] → step x m .next .figures .locked ≡ false
 unfolding step
-quiet-shut x m w none = go (search (bring x m) .locked) refl
+quiet-shut x m w none = go (search (bring x m) .figures .locked) refl
   where
-    go : (b : Bool) → search (bring x m) .locked ≡ b → drain 3 (search (bring x m)) .next .locked ≡ false
+    go : (b : Bool) → search (bring x m) .figures .locked ≡ b → drain 3 (search (bring x m)) .next .figures .locked ≡ false
     go true t =
         let f = found (bring x m) (brought-locked x m ∙ w) t in
         absurd (omega (arith, ap length (sym (ap (λ (o : Out). o .sent) (drain-one 2 (search (bring x m)) (found-ready (search (bring x m)) f))) ∙ none)))
-    go false v = ap (λ (o : Out). o .next .locked) (no-lock 3 (search (bring x m)) v) ∙ v
+    go false v = ap (λ (o : Out). o .next .figures .locked) (no-lock 3 (search (bring x m)) v) ∙ v
 
 -- by what goes out: frames and no lock, or a lock and no frame, and there was a lock before
-pub sends-found : (x : Input) (m : State) → 0 < length (step x m .sent) → step x m .next .locked ≡ false → m .locked ≡ true
+pub sends-found : (x : Input) (m : State) → 0 < length (step x m .sent) → step x m .next .figures .locked ≡ false → m .figures .locked ≡ true
 unfolding step Loses
-sends-found x m some w = go (search (bring x m) .locked) refl
+sends-found x m some w = go (search (bring x m) .figures .locked) refl
   where
-    go : (b : Bool) → search (bring x m) .locked ≡ b → m .locked ≡ true
+    go : (b : Bool) → search (bring x m) .figures .locked ≡ b → m .figures .locked ≡ true
     go true t = found-it x m (t, w)
     go false v = absurd (omega (arith, ap (λ (o : Out). length (o .sent)) (no-lock 3 (search (bring x m)) v)))
 
-pub quiet-found : (x : Input) (m : State) → step x m .sent ≡ [] → step x m .next .locked ≡ true → m .locked ≡ true
-quiet-found x m none t = go (m .locked) refl
+pub quiet-found : (x : Input) (m : State) → step x m .sent ≡ [] → step x m .next .figures .locked ≡ true → m .figures .locked ≡ true
+quiet-found x m none t = go (m .figures .locked) refl
   where
-    go : (b : Bool) → m .locked ≡ b → m .locked ≡ true
+    go : (b : Bool) → m .figures .locked ≡ b → m .figures .locked ≡ true
     go true u = u
     go false w = absurd (true≢false (sym t ∙ quiet-shut x m w none))

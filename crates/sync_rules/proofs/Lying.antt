@@ -56,19 +56,19 @@ lies-restore H h o l =
 
 -- n has the figures of m, but for the bits and the count of slips
 pub record Like (m n : State) : Type 0 where
-  pub clock : n .clock ≡ m .clock
-  pub frames : n .frames ≡ m .frames
-  pub synchronised : n .synchronised ≡ m .synchronised
-  pub failures : n .failures ≡ m .failures
-  pub locked : n .locked ≡ m .locked
-  pub soft : n .soft ≡ m .soft
+  pub clock : n .figures .clock ≡ m .figures .clock
+  pub frames : n .figures .frames ≡ m .figures .frames
+  pub synchronised : n .figures .synchronised ≡ m .figures .synchronised
+  pub failures : n .figures .failures ≡ m .figures .failures
+  pub locked : n .figures .locked ≡ m .figures .locked
+  pub soft : n .figures .soft ≡ m .figures .soft
 
 pub like-same : (m : State) → Like m m
 like-same m = record { clock = refl; frames = refl; synchronised = refl; failures = refl; locked = refl; soft = refl }
 
 -- place a of the first pending bit is the clock and the net slip
 abbrev pub Bal : ℕ → State → Type 0
-Bal a m = a + 2 * m .earlier ≡ m .clock + 2 * m .later
+Bal a m = a + 2 * m .figures .earlier ≡ m .figures .clock + 2 * m .figures .later
 
 -- as many bits are restorable as stand before place a, two at most
 abbrev pub Whole : ℕ → State → Type 0
@@ -133,14 +133,14 @@ pub record Sends (H : List ℕ) (m : State) (a : ℕ) (s : Sent) : Type 0 where
   pub balance : Bal a m → Bal (lies .from + s .next .restorable) (s .next)
   pub two : s .next .restorable ≡ 2
   pub beside : Beside m a (s .next) (lies .from)
-  pub offset : s .frame .offset ≡ m .clock
-  pub clock : s .next .clock ≡ m .clock + 384
-  pub frames : s .next .frames ≡ m .frames + 1
-  pub soft : s .next .soft ≡ m .soft
-  pub failures : s .next .failures ≡ cond (s .frame .matched) 0 (m .failures + 1)
-  pub locked : s .next .locked ≡ cond (s .frame .matched) true (ltb (m .failures + 1) 3)
+  pub offset : s .frame .offset ≡ m .figures .clock
+  pub clock : s .next .figures .clock ≡ m .figures .clock + 384
+  pub frames : s .next .figures .frames ≡ m .figures .frames + 1
+  pub soft : s .next .figures .soft ≡ m .figures .soft
+  pub failures : s .next .figures .failures ≡ cond (s .frame .matched) 0 (m .figures .failures + 1)
+  pub locked : s .next .figures .locked ≡ cond (s .frame .matched) true (ltb (m .figures .failures + 1) 3)
 
-sends-at : (H : List ℕ) (m : State) (a : ℕ) (n : State) → Like m n → (l : Lies H (n .held) (n .restorable)) → a ≤ l .from + n .restorable + 2 → (w : Move) (p q : ℕ) → (Bal a m → l .from + n .restorable + (q + 128) + 2 * n .earlier ≡ n .clock + 384 + 2 * n .later)
+sends-at : (H : List ℕ) (m : State) (a : ℕ) (n : State) → Like m n → (l : Lies H (n .held) (n .restorable)) → a ≤ l .from + n .restorable + 2 → (w : Move) (p q : ℕ) → (Bal a m → l .from + n .restorable + (q + 128) + 2 * n .figures .earlier ≡ n .figures .clock + 384 + 2 * n .figures .later)
     → 252 ≤ q → l .from + n .restorable + (q + 128) ≤ length H → Beside m a n (l .from) → Sends H m a (sendAt w n p q)
 unfolding sendAt leave pass frameAt lies-pass
 sends-at H m a n k l h w p q e g f along =
@@ -178,25 +178,25 @@ sends-shifted H m a n o r f =
 
 -- ready: a lock, 384 bits pending, and 392 of a frame that is not in place
 pub record IsReady (m : State) : Type 0 where
-  pub locked : m .locked ≡ true
+  pub locked : m .figures .locked ≡ true
   pub enough : 384 ≤ length (pending m)
   pub more : inPlace (pending m) 0 ≡ false → 392 ≤ length (pending m)
 
 pub is-ready : (m : State) → ready m ≡ true → IsReady m
 unfolding ready
 is-ready m e =
-    let r = both-true (m .locked) _ e .1 in
+    let r = both-true (m .figures .locked) _ e .1 in
     let n = length (pending m) in
-    record { locked = both-true (m .locked) _ e .0; enough = omega (arith, leb-true _ n (both-true (leb _ n) (inPlace (pending m) 0 || leb _ n) r .0)); more = λ w. omega (arith, leb-true _ n (out (inPlace (pending m) 0) (leb _ n) (both-true (leb _ n) (inPlace (pending m) 0 || leb _ n) r .1) w)) }
+    record { locked = both-true (m .figures .locked) _ e .0; enough = omega (arith, leb-true _ n (both-true (leb _ n) (inPlace (pending m) 0 || leb _ n) r .0)); more = λ w. omega (arith, leb-true _ n (out (inPlace (pending m) 0) (leb _ n) (both-true (leb _ n) (inPlace (pending m) 0 || leb _ n) r .1) w)) }
   where
     out : (b c : Bool) → (b || c) ≡ true → b ≡ false → c ≡ true
     out true c e w = absurd (true≢false w)
     out false c e w = e
 
 -- a lock that is not ready has fewer than 392 bits pending
-pub not-ready : (m : State) → ready m ≡ false → m .locked ≡ true → length (pending m) ≤ 391
+pub not-ready : (m : State) → ready m ≡ false → m .figures .locked ≡ true → length (pending m) ≤ 391
 unfolding ready
-not-ready m e l = few _ _ (inPlace (pending m) 0) (after (m .locked) _ l e) (omega arith) (omega arith)
+not-ready m e l = few _ _ (inPlace (pending m) 0) (after (m .figures .locked) _ l e) (omega arith) (omega arith)
   where
     after : (x y : Bool) → x ≡ true → (x && y) ≡ false → y ≡ false
     after true y h w = w
@@ -260,4 +260,4 @@ at-search-less m p = pass-less p m
 
 pub search-less : (m : State) → length (search m .held) ≤ length (m .held)
 unfolding search
-search-less m = cond-cases (λ (n : State). length (n .held) ≤ length (m .held)) (m .locked) m _ (λ t. omega arith) (λ w. at-search-less m _)
+search-less m = cond-cases (λ (n : State). length (n .held) ≤ length (m .held)) (m .figures .locked) m _ (λ t. omega arith) (λ w. at-search-less m _)

@@ -26,13 +26,13 @@ Spaced d (f ∷ fs) (g ∷ gs) = (f .offset ≡ d + g) × Spaced (f .offset + 38
 
 -- the frames of a drain, and then those that follow it
 spaced-drain : (n : ℕ) (H : List ℕ) (m : State) (l : Lies H (m .held) (m .restorable)) (fs : List Frame) (gs : List ℕ)
-    → Spaced (drain n m .next .clock) fs gs → Spaced (m .clock) (drain n m .sent ++ fs) (none (drain n m .sent) ++ gs)
+    → Spaced (drain n m .next .figures .clock) fs gs → Spaced (m .figures .clock) (drain n m .sent ++ fs) (none (drain n m .sent) ++ gs)
 unfolding drain none Spaced
 spaced-drain zero H m l fs gs = λ w. w
 spaced-drain (suc n) H m l fs gs =
-    cond-cases (λ (o : Out). Spaced (o .next .clock) fs gs → Spaced (m .clock) (o .sent ++ fs) (none (o .sent) ++ gs)) (ready m) _ _
+    cond-cases (λ (o : Out). Spaced (o .next .figures .clock) fs gs → Spaced (m .figures .clock) (o .sent ++ fs) (none (o .sent) ++ gs)) (ready m) _ _
     (λ t w. let s = sends H m l (is-ready m t) in
-    (s .offset ∙ sym (add-zero (m .clock)), subst (λ (c : ℕ). Spaced c (drain n (send m .next) .sent ++ fs) (none (drain n (send m .next) .sent) ++ gs)) (s .clock ∙ ap (λ (c : ℕ). c + 384) (sym (s .offset))) (spaced-drain n H (send m .next) (s .lies) fs gs w)))
+    (s .offset ∙ sym (add-zero (m .figures .clock)), subst (λ (c : ℕ). Spaced c (drain n (send m .next) .sent ++ fs) (none (drain n (send m .next) .sent) ++ gs)) (s .clock ∙ ap (λ (c : ℕ). c + 384) (sym (s .offset))) (spaced-drain n H (send m .next) (s .lies) fs gs w)))
     (λ v w. w)
 
 -- c bits passed before the first
@@ -50,26 +50,26 @@ unfolding gaps rest
 spaced-step d c k [] fs gs e go on = go d c (e refl)
 spaced-step d c k (o ∷ os) fs gs e go on = spaced-gap d c o os fs (gs 0) (on (go k 0 (sym (add-zero k))))
 
-still : (n : ℕ) (m : State) → drain n m .sent ≡ [] → drain n m .next .clock ≡ m .clock
+still : (n : ℕ) (m : State) → drain n m .sent ≡ [] → drain n m .next .figures .clock ≡ m .figures .clock
 unfolding drain
 still zero m = λ e. refl
-still (suc n) m = cond-cases (λ (o : Out). o .sent ≡ [] → o .next .clock ≡ m .clock) (ready m) _ _ (λ t e. absurd (omega (arith, ap length e))) (λ w e. refl)
+still (suc n) m = cond-cases (λ (o : Out). o .sent ≡ [] → o .next .figures .clock ≡ m .figures .clock) (ready m) _ _ (λ t e. absurd (omega (arith, ap length e))) (λ w e. refl)
 
-searched-clock : (H : List ℕ) (x : Input) (m : State) (d c : ℕ) → Inv H m → m .clock ≡ d + c → search (bring x m) .clock ≡ d + (c + passedBy x m)
+searched-clock : (H : List ℕ) (x : Input) (m : State) (d c : ℕ) → Inv H m → m .figures .clock ≡ d + c → search (bring x m) .figures .clock ≡ d + (c + passedBy x m)
 unfolding step
-searched-clock H x m d c i e = clock (search (bring x m) .clock) (m .clock) (passedBy x m) d c (stepped H x m i .search) e
+searched-clock H x m d c i e = clock (search (bring x m) .figures .clock) (m .figures .clock) (passedBy x m) d c (stepped H x m i .search) e
   where
     clock : (s k p d c : ℕ) → s ≡ k + p → k ≡ d + c → s ≡ d + (c + p)
     clock s k p d c a b = omega arith
 
-spaced-run : (xs : List Input) (H : List ℕ) (m : State) (d c : ℕ) → Inv H m → m .clock ≡ d + c → Spaced d (run xs m .sent) (between c xs m)
+spaced-run : (xs : List Input) (H : List ℕ) (m : State) (d c : ℕ) → Inv H m → m .figures .clock ≡ d + c → Spaced d (run xs m .sent) (between c xs m)
 unfolding run between step Spaced
 spaced-run [] H m d c i e = omega arith
 spaced-run (x ∷ xs) H m d c i e =
     let N = search (bring x m) in
     let s = inv-search H x m i in
-    let k : N .clock ≡ d + (c + passedBy x m) = searched-clock H x m d c i e in
-    spaced-step d (c + passedBy x m) (step x m .next .clock) (step x m .sent) (run xs (step x m .next) .sent) (λ b. between b xs (step x m .next))
+    let k : N .figures .clock ≡ d + (c + passedBy x m) = searched-clock H x m d c i e in
+    spaced-step d (c + passedBy x m) (step x m .next .figures .clock) (step x m .sent) (run xs (step x m .next) .sent) (λ b. between b xs (step x m .next))
     (λ z. still 3 N z ∙ k)
     (λ e′ b w. spaced-run xs (H ++ two x) (step x m .next) e′ b (inv-step H x m i) w)
     (λ w. subst (λ (j : ℕ). Spaced j (step x m .sent ++ run xs (step x m .next) .sent) (none (step x m .sent) ++ between 0 xs (step x m .next))) k
@@ -135,10 +135,10 @@ sent-is xs ys = refl
 pub settled-rule : settledRule
 settled-rule xs ys =
     let m = stateAfter xs in
-    let w = spaced-run ys (stream xs) m (m .clock) 0 (reached xs) (sym (add-zero (m .clock))) in
+    let w = spaced-run ys (stream xs) m (m .figures .clock) 0 (reached xs) (sym (add-zero (m .figures .clock))) in
     record {
-      above = λ i h. subst (λ (fs : List Frame). i < length fs → m .clock ≤ getD (offsets fs) i 0) (sym (sent-is xs ys)) (spaced-above (m .clock) (m .clock) (run ys m .sent) (between 0 ys m) (omega arith) w i) h;
-      never-falls = omega (arith, run-clock ys (stream xs) m (reached xs), ap (λ (z : State). z .clock) (run-next xs ys start));
+      above = λ i h. subst (λ (fs : List Frame). i < length fs → m .figures .clock ≤ getD (offsets fs) i 0) (sym (sent-is xs ys)) (spaced-above (m .figures .clock) (m .figures .clock) (run ys m .sent) (between 0 ys m) (omega arith) w i) h;
+      never-falls = omega (arith, run-clock ys (stream xs) m (reached xs), ap (λ (z : State). z .figures .clock) (run-next xs ys start));
     }
 
 sent-start : (xs : List Input) → sentBy [] xs ≡ run xs start .sent

@@ -25,20 +25,20 @@ use Rattle.sync_rules.proofs.Keeping.{found-it}
 use Rattle.sync_rules.proofs.Demands.{place-is}
 
 -- ---- a drain: its frames' offsets, its counts
-pub drain-offsets : (n : ℕ) (H : List ℕ) (m : State) (l : Lies H (m .held) (m .restorable)) → offsets (drain n m .sent) ≡ grid (m .clock) (length (drain n m .sent))
+pub drain-offsets : (n : ℕ) (H : List ℕ) (m : State) (l : Lies H (m .held) (m .restorable)) → offsets (drain n m .sent) ≡ grid (m .figures .clock) (length (drain n m .sent))
 unfolding drain offsets grid
 drain-offsets zero H m l = refl
 drain-offsets (suc n) H m l =
-    cond-cases (λ (o : Out). offsets (o .sent) ≡ grid (m .clock) (length (o .sent))) (ready m) _ _
+    cond-cases (λ (o : Out). offsets (o .sent) ≡ grid (m .figures .clock) (length (o .sent))) (ready m) _ _
     (λ t. let s = sends H m l (is-ready m t) in
     ap₂ (λ (a : ℕ) (b : List ℕ). a ∷ b) (s .offset) (drain-offsets n H (send m .next) (s .lies) ∙ ap (λ (c : ℕ). grid c (length (drain n (send m .next) .sent))) (s .clock)))
     (λ w. refl)
 
 -- the figures that a drain keeps or counts up
 pub record Counts (m : State) (o : Out) : Type 0 where
-  pub clock : o .next .clock ≡ m .clock + 384 * length (o .sent)
-  pub frames : o .next .frames ≡ m .frames + length (o .sent)
-  pub soft : o .next .soft ≡ m .soft
+  pub clock : o .next .figures .clock ≡ m .figures .clock + 384 * length (o .sent)
+  pub frames : o .next .figures .frames ≡ m .figures .frames + length (o .sent)
+  pub soft : o .next .figures .soft ≡ m .figures .soft
 
 counts : (n : ℕ) (H : List ℕ) (m : State) (l : Lies H (m .held) (m .restorable)) → Counts m (drain n m)
 unfolding drain
@@ -52,21 +52,21 @@ counts (suc n) H m l =
 
 -- a push
 pub record Stepped (x : Input) (m : State) : Type 0 where
-  pub clock : step x m .next .clock ≡ m .clock + (length (pending (bring x m)) - length (pending (search (bring x m)))) + 384 * length (step x m .sent)
-  pub offset : offsets (step x m .sent) ≡ grid (m .clock + (length (pending (bring x m)) - length (pending (search (bring x m))))) (length (step x m .sent))
-  pub search : search (bring x m) .clock ≡ m .clock + (length (pending (bring x m)) - length (pending (search (bring x m))))
-  pub frames : step x m .next .frames ≡ m .frames + length (step x m .sent)
-  pub soft : step x m .next .soft ≡ (m .soft || x .soft)
+  pub clock : step x m .next .figures .clock ≡ m .figures .clock + (length (pending (bring x m)) - length (pending (search (bring x m)))) + 384 * length (step x m .sent)
+  pub offset : offsets (step x m .sent) ≡ grid (m .figures .clock + (length (pending (bring x m)) - length (pending (search (bring x m))))) (length (step x m .sent))
+  pub search : search (bring x m) .figures .clock ≡ m .figures .clock + (length (pending (bring x m)) - length (pending (search (bring x m))))
+  pub frames : step x m .next .figures .frames ≡ m .figures .frames + length (step x m .sent)
+  pub soft : step x m .next .figures .soft ≡ (m .figures .soft || x .soft)
 
-pub brought-clock : (x : Input) (m : State) → bring x m .clock ≡ m .clock
+pub brought-clock : (x : Input) (m : State) → bring x m .figures .clock ≡ m .figures .clock
 unfolding bring
 brought-clock x m = refl
 
-brought-frames : (x : Input) (m : State) → bring x m .frames ≡ m .frames
+brought-frames : (x : Input) (m : State) → bring x m .figures .frames ≡ m .figures .frames
 unfolding bring
 brought-frames x m = refl
 
-pub brought-soft : (x : Input) (m : State) → bring x m .soft ≡ (m .soft || x .soft)
+pub brought-soft : (x : Input) (m : State) → bring x m .figures .soft ≡ (m .figures .soft || x .soft)
 unfolding bring
 brought-soft x m = refl
 
@@ -80,7 +80,7 @@ stepped H x m i =
     let N = search (bring x m) in
     let s = inv-search H x m i in
     let c = counts 3 (H ++ two x) N (s .lies) in
-    let d : N .clock ≡ m .clock + (length (pending (bring x m)) - length (pending N)) =
+    let d : N .figures .clock ≡ m .figures .clock + (length (pending (bring x m)) - length (pending N)) =
     omega (arith, s .clock, s .further, brought-clock x m, brought-length x m H i, lies-length (H ++ two x) (N .held) (N .restorable) (s .lies), s .lies .fits) in
     record {
       clock = omega (arith, c .clock);
@@ -99,27 +99,27 @@ pub or-false : (a : Bool) → a ≡ (a || false)
 or-false true = refl
 or-false false = refl
 
-pub run-clock : (xs : List Input) (H : List ℕ) (m : State) → Inv H m → run xs m .next .clock ≡ m .clock + searched xs m + 384 * length (run xs m .sent)
+pub run-clock : (xs : List Input) (H : List ℕ) (m : State) → Inv H m → run xs m .next .figures .clock ≡ m .figures .clock + searched xs m + 384 * length (run xs m .sent)
 unfolding run searched
 run-clock [] H m i = omega arith
 run-clock (x ∷ xs) H m i =
     let s = stepped H x m i in
     omega (arith, run-clock xs (H ++ two x) (step x m .next) (inv-step H x m i), s .clock, length-append (step x m .sent) (run xs (step x m .next) .sent))
 
-run-taken : (xs : List Input) (m : State) → run xs m .next .taken ≡ m .taken + length xs
+run-taken : (xs : List Input) (m : State) → run xs m .next .figures .taken ≡ m .figures .taken + length xs
 unfolding run
 run-taken [] m = omega arith
 run-taken (x ∷ xs) m = omega (arith, run-taken xs (step x m .next), step-taken x m)
 
-run-frames : (xs : List Input) (H : List ℕ) (m : State) → Inv H m → run xs m .next .frames ≡ m .frames + length (run xs m .sent)
+run-frames : (xs : List Input) (H : List ℕ) (m : State) → Inv H m → run xs m .next .figures .frames ≡ m .figures .frames + length (run xs m .sent)
 unfolding run
 run-frames [] H m i = omega arith
 run-frames (x ∷ xs) H m i = omega (arith, run-frames xs (H ++ two x) (step x m .next) (inv-step H x m i), stepped H x m i .frames, length-append (step x m .sent) (run xs (step x m .next) .sent))
 
-pub run-soft : (xs : List Input) (H : List ℕ) (m : State) → Inv H m → run xs m .next .soft ≡ (m .soft || everSoft xs)
+pub run-soft : (xs : List Input) (H : List ℕ) (m : State) → Inv H m → run xs m .next .figures .soft ≡ (m .figures .soft || everSoft xs)
 unfolding run everSoft
-run-soft [] H m i = or-false (m .soft)
-run-soft (x ∷ xs) H m i = run-soft xs (H ++ two x) (step x m .next) (inv-step H x m i) ∙ ap (λ (b : Bool). b || everSoft xs) (stepped H x m i .soft) ∙ or-assoc (m .soft) (x .soft) (everSoft xs)
+run-soft [] H m i = or-false (m .figures .soft)
+run-soft (x ∷ xs) H m i = run-soft xs (H ++ two x) (step x m .next) (inv-step H x m i) ∙ ap (λ (b : Bool). b || everSoft xs) (stepped H x m i .soft) ∙ or-assoc (m .figures .soft) (x .soft) (everSoft xs)
 
 searched-append : (xs : List Input) (x : Input) (m : State) → searched (xs ++ (x ∷ [])) m ≡ searched xs m + (length (pending (bring x (run xs m .next))) - length (pending (search (bring x (run xs m .next)))))
 unfolding searched run
@@ -154,8 +154,8 @@ holds-before n (g ∷ gs) f hs w = holds-before (cond (g .matched) 0 (suc n)) gs
 -- a lock through a drain
 record Locks (k : ℕ) (o : Out) : Type 0 where
   holds : Holds k (o .sent)
-  open′ : o .next .locked ≡ true → (o .next .failures ≡ poor k (o .sent)) × (o .next .failures ≤ 2)
-  shut′ : o .next .locked ≡ false → poor k (o .sent) ≡ 3
+  open′ : o .next .figures .locked ≡ true → (o .next .figures .failures ≡ poor k (o .sent)) × (o .next .figures .failures ≤ 2)
+  shut′ : o .next .figures .locked ≡ false → poor k (o .sent) ≡ 3
 
 lock-next : (t : Bool) (k : ℕ) → k ≤ 2 → (cond t true (ltb (k + 1) 3) ≡ true → cond t 0 (k + 1) ≤ 2) × (cond t true (ltb (k + 1) 3) ≡ false → cond t 0 (suc k) ≡ 3)
 lock-next true k h = ((λ w. omega arith), (λ w. absurd (true≢false w)))
@@ -165,23 +165,23 @@ cond-suc : (t : Bool) (k : ℕ) → cond t 0 (k + 1) ≡ cond t 0 (suc k)
 cond-suc true k = refl
 cond-suc false k = omega arith
 
-lock-after : (n : ℕ) (m : State) (k : ℕ) → m .failures ≡ k → (m .locked ≡ true → k ≤ 2) → (m .locked ≡ false → k ≡ 3) → (b : Bool) → m .locked ≡ b
-    → (m .locked ≡ true → m .failures ≤ 2 → Locks (m .failures) (drain n m)) → Locks k (drain n m)
+lock-after : (n : ℕ) (m : State) (k : ℕ) → m .figures .failures ≡ k → (m .figures .locked ≡ true → k ≤ 2) → (m .figures .locked ≡ false → k ≡ 3) → (b : Bool) → m .figures .locked ≡ b
+    → (m .figures .locked ≡ true → m .figures .failures ≤ 2 → Locks (m .figures .failures) (drain n m)) → Locks k (drain n m)
 unfolding Holds poor
 lock-after n m k e f g true t on = subst (λ (j : ℕ). Locks j (drain n m)) e (on t (omega (arith, f t)))
 lock-after n m k e f g false w on = subst (λ (o : Out). Locks k o) (sym (no-lock n m w)) (record { holds = omega arith; open′ = λ t. absurd (true≢false (sym t ∙ w)); shut′ = λ v. g v })
 
-lock-drain : (n : ℕ) (H : List ℕ) (m : State) (l : Lies H (m .held) (m .restorable)) → m .locked ≡ true → m .failures ≤ 2 → Locks (m .failures) (drain n m)
+lock-drain : (n : ℕ) (H : List ℕ) (m : State) (l : Lies H (m .held) (m .restorable)) → m .figures .locked ≡ true → m .figures .failures ≤ 2 → Locks (m .figures .failures) (drain n m)
 unfolding drain Holds poor
 lock-drain zero H m l t h = record { holds = omega arith; open′ = λ w. (refl, h); shut′ = λ w. absurd (true≢false (sym t ∙ w)) }
 lock-drain (suc n) H m l t h =
-    cond-cases (λ (o : Out). Locks (m .failures) o) (ready m) _ _
+    cond-cases (λ (o : Out). Locks (m .figures .failures) o) (ready m) _ _
     (λ r. let s = sends H m l (is-ready m r) in
     let ok = send m .frame .matched in
-    let fl : send m .next .failures ≡ cond ok 0 (suc (m .failures)) = s .failures ∙ cond-suc ok (m .failures) in
-    let nx = lock-next ok (m .failures) h in
-    let L : Locks (cond ok 0 (suc (m .failures))) (drain n (send m .next)) =
-    lock-after n (send m .next) (cond ok 0 (suc (m .failures))) fl (λ v. omega (arith, nx .0 (sym (s .locked) ∙ v), cond-suc ok (m .failures))) (λ v. nx .1 (sym (s .locked) ∙ v)) (send m .next .locked) refl
+    let fl : send m .next .figures .failures ≡ cond ok 0 (suc (m .figures .failures)) = s .failures ∙ cond-suc ok (m .figures .failures) in
+    let nx = lock-next ok (m .figures .failures) h in
+    let L : Locks (cond ok 0 (suc (m .figures .failures))) (drain n (send m .next)) =
+    lock-after n (send m .next) (cond ok 0 (suc (m .figures .failures))) fl (λ v. omega (arith, nx .0 (sym (s .locked) ∙ v), cond-suc ok (m .figures .failures))) (λ v. nx .1 (sym (s .locked) ∙ v)) (send m .next .figures .locked) refl
     (λ v w. lock-drain n H (send m .next) (s .lies) v w) in
     record { holds = (omega arith, L .holds); open′ = L .open′; shut′ = L .shut′ })
     (λ w. record { holds = omega arith; open′ = λ v. (refl, h); shut′ = λ v. absurd (true≢false (sym t ∙ v)) })
@@ -189,14 +189,14 @@ lock-drain (suc n) H m l t h =
 -- a lock through pushes: fs are the frames since it began
 record Locked (m : State) (fs : List Frame) : Type 0 where
   holds : Holds 0 fs
-  open′ : m .locked ≡ true → (m .failures ≡ poor 0 fs) × (m .failures ≤ 2)
-  shut′ : m .locked ≡ false → (fs ≡ []) ⊎ (poor 0 fs ≡ 3)
+  open′ : m .figures .locked ≡ true → (m .figures .failures ≡ poor 0 fs) × (m .figures .failures ≤ 2)
+  shut′ : m .figures .locked ≡ false → (fs ≡ []) ⊎ (poor 0 fs ≡ 3)
 
-brought-locked : (x : Input) (m : State) → bring x m .locked ≡ m .locked
+brought-locked : (x : Input) (m : State) → bring x m .figures .locked ≡ m .figures .locked
 unfolding bring
 brought-locked x m = refl
 
-brought-failures : (x : Input) (m : State) → bring x m .failures ≡ m .failures
+brought-failures : (x : Input) (m : State) → bring x m .figures .failures ≡ m .figures .failures
 unfolding bring
 brought-failures x m = refl
 
@@ -209,55 +209,55 @@ joins k fs o e h L =
       shut′ = λ w. inr (poor-append 0 fs (o .sent) ∙ ap (λ (j : ℕ). poor j (o .sent)) (sym e) ∙ L .shut′ w);
     }
 
-fresh : (H : List ℕ) (x : Input) (m : State) → Inv H m → m .locked ≡ false → (b : Bool) → search (bring x m) .locked ≡ b → Locked (drain 3 (search (bring x m)) .next) ([] ++ drain 3 (search (bring x m)) .sent)
+fresh : (H : List ℕ) (x : Input) (m : State) → Inv H m → m .figures .locked ≡ false → (b : Bool) → search (bring x m) .figures .locked ≡ b → Locked (drain 3 (search (bring x m)) .next) ([] ++ drain 3 (search (bring x m)) .sent)
 unfolding Holds poor
 fresh H x m i w true t =
     let s = inv-search H x m i in
-    let z : search (bring x m) .failures ≡ 0 = s .failures t (brought-locked x m ∙ w) in
+    let z : search (bring x m) .figures .failures ≡ 0 = s .failures t (brought-locked x m ∙ w) in
     joins 0 [] (drain 3 (search (bring x m))) refl (omega arith) (subst (λ (j : ℕ). Locks j (drain 3 (search (bring x m)))) z (lock-drain 3 (H ++ two x) (search (bring x m)) (s .lies) t (omega arith)))
 fresh H x m i w false v =
     subst (λ (o : Out). Locked (o .next) ([] ++ o .sent)) (sym (no-lock 3 (search (bring x m)) v))
     (record { holds = omega arith; open′ = λ t. absurd (true≢false (sym t ∙ v)); shut′ = λ u. inl refl })
 
-lock-step : (H : List ℕ) (x : Input) (m : State) (fs : List Frame) → Inv H m → Locked m fs → Locked (step x m .next) (cond (m .locked) fs [] ++ step x m .sent)
+lock-step : (H : List ℕ) (x : Input) (m : State) (fs : List Frame) → Inv H m → Locked m fs → Locked (step x m .next) (cond (m .figures .locked) fs [] ++ step x m .sent)
 unfolding step
 lock-step H x m fs i L =
-    cond-cases (λ (l : List Frame). Locked (step x m .next) (l ++ step x m .sent)) (m .locked) fs []
-    (λ t. let s = inv-search H x m i in joins (m .failures) fs (step x m) (L .open′ t .0) (L .holds)
-    (subst (λ (z : State). Locks (m .failures) (drain 3 z)) (sym (s .keeps (brought-locked x m ∙ t)))
+    cond-cases (λ (l : List Frame). Locked (step x m .next) (l ++ step x m .sent)) (m .figures .locked) fs []
+    (λ t. let s = inv-search H x m i in joins (m .figures .failures) fs (step x m) (L .open′ t .0) (L .holds)
+    (subst (λ (z : State). Locks (m .figures .failures) (drain 3 z)) (sym (s .keeps (brought-locked x m ∙ t)))
     (lock-drain 3 (H ++ two x) (bring x m) (inv-bring H x m (i .lies)) (brought-locked x m ∙ t) (L .open′ t .1))))
-    (λ w. fresh H x m i w (search (bring x m) .locked) refl)
+    (λ w. fresh H x m i w (search (bring x m) .figures .locked) refl)
 
 lock-run : (xs : List Input) (H : List ℕ) (m : State) (fs : List Frame) → Inv H m → Locked m fs → Locked (run xs m .next) (lockSent xs m fs)
 unfolding run lockSent
 lock-run [] H m fs i L = L
-lock-run (x ∷ xs) H m fs i L = lock-run xs (H ++ two x) (step x m .next) (cond (m .locked) fs [] ++ step x m .sent) (inv-step H x m i) (lock-step H x m fs i L)
+lock-run (x ∷ xs) H m fs i L = lock-run xs (H ++ two x) (step x m .next) (cond (m .figures .locked) fs [] ++ step x m .sent) (inv-step H x m i) (lock-step H x m fs i L)
 
 -- the frames of the push that ends a lock make three
-kept-locks : (H : List ℕ) (x : Input) (m : State) (fs : List Frame) → Inv H m → Locked m fs → m .locked ≡ true → Locks (m .failures) (step x m)
+kept-locks : (H : List ℕ) (x : Input) (m : State) (fs : List Frame) → Inv H m → Locked m fs → m .figures .locked ≡ true → Locks (m .figures .failures) (step x m)
 unfolding step
 kept-locks H x m fs i L t =
-    subst (λ (z : State). Locks (m .failures) (drain 3 z)) (sym (inv-search H x m i .keeps (brought-locked x m ∙ t)))
+    subst (λ (z : State). Locks (m .figures .failures) (drain 3 z)) (sym (inv-search H x m i .keeps (brought-locked x m ∙ t)))
     (lock-drain 3 (H ++ two x) (bring x m) (inv-bring H x m (i .lies)) (brought-locked x m ∙ t) (L .open′ t .1))
 
-fresh-locks : (H : List ℕ) (x : Input) (m : State) → Inv H m → m .locked ≡ false → search (bring x m) .locked ≡ true → Locks 0 (step x m)
+fresh-locks : (H : List ℕ) (x : Input) (m : State) → Inv H m → m .figures .locked ≡ false → search (bring x m) .figures .locked ≡ true → Locks 0 (step x m)
 unfolding step
 fresh-locks H x m i w t =
     let s = inv-search H x m i in
-    let z : search (bring x m) .failures ≡ 0 = s .failures t (brought-locked x m ∙ w) in
+    let z : search (bring x m) .figures .failures ≡ 0 = s .failures t (brought-locked x m ∙ w) in
     subst (λ (j : ℕ). Locks j (drain 3 (search (bring x m)))) z (lock-drain 3 (H ++ two x) (search (bring x m)) (s .lies) t (omega arith))
 
-lost-three : (H : List ℕ) (x : Input) (m : State) (fs : List Frame) → Inv H m → Locked m fs → Loses x m → poor 0 (cond (m .locked) fs [] ++ step x m .sent) ≡ 3
+lost-three : (H : List ℕ) (x : Input) (m : State) (fs : List Frame) → Inv H m → Locked m fs → Loses x m → poor 0 (cond (m .figures .locked) fs [] ++ step x m .sent) ≡ 3
 unfolding Loses
 lost-three H x m fs i L lost =
-    cond-cases (λ (l : List Frame). poor 0 (l ++ step x m .sent) ≡ 3) (m .locked) fs []
+    cond-cases (λ (l : List Frame). poor 0 (l ++ step x m .sent) ≡ 3) (m .figures .locked) fs []
     (λ t. poor-append 0 fs (step x m .sent) ∙ ap (λ (j : ℕ). poor j (step x m .sent)) (sym (L .open′ t .0)) ∙ kept-locks H x m fs i L t .shut′ (lost .1))
     (λ w. fresh-locks H x m i w (lost .0) .shut′ (lost .1))
 
-lock-append : (xs : List Input) (x : Input) (m : State) (fs : List Frame) → lockSent (xs ++ (x ∷ [])) m fs ≡ cond (run xs m .next .locked) (lockSent xs m fs) [] ++ step x (run xs m .next) .sent
+lock-append : (xs : List Input) (x : Input) (m : State) (fs : List Frame) → lockSent (xs ++ (x ∷ [])) m fs ≡ cond (run xs m .next .figures .locked) (lockSent xs m fs) [] ++ step x (run xs m .next) .sent
 unfolding lockSent run
 lock-append [] x m fs = refl
-lock-append (y ∷ xs) x m fs = lock-append xs x (step y m .next) (cond (m .locked) fs [] ++ step y m .sent)
+lock-append (y ∷ xs) x m fs = lock-append xs x (step y m .next) (cond (m .figures .locked) fs [] ++ step y m .sent)
 
 lock-start : Locked start []
 unfolding Holds poor
@@ -282,9 +282,9 @@ unfolding bring
 brought-held xs x =
     let m = stateAfter xs in
     let i = reached xs in
-    few m i (m .locked) refl
+    few m i (m .figures .locked) refl
   where
-    few : (m : State) (i : Inv (stream xs) m) (b : Bool) → m .locked ≡ b → length (m .held ++ two x) ≤ 1155
+    few : (m : State) (i : Inv (stream xs) m) (b : Bool) → m .figures .locked ≡ b → length (m .held ++ two x) ≤ 1155
     few m i true t = omega (arith, length-append (m .held) (two x), held-is (stream xs) (m .held) (m .restorable) (i .lies), i .high t, i .lies .restorable)
     few m i false w = omega (arith, length-append (m .held) (two x), held-is (stream xs) (m .held) (m .restorable) (i .lies), i .low w, i .lies .restorable)
 
@@ -312,7 +312,7 @@ all-rules xs =
     let n : length (pending m) ≡ length H - (i .lies .from + m .restorable) = lies-length H (m .held) (m .restorable) (i .lies) in
     let f = i .lies .fits in
     let p = place-is xs i in
-    let k : m .clock ≡ searched xs start + 384 * length (run xs start .sent) = omega (arith, run-clock xs [] start inv-start) in
+    let k : m .figures .clock ≡ searched xs start + 384 * length (run xs start .sent) = omega (arith, run-clock xs [] start inv-start) in
     let e = sent-is xs in
     record {
       locked = λ t. omega (arith, i .high t);
@@ -321,16 +321,16 @@ all-rules xs =
       held = λ x. (brought-held xs x, λ j. omega (arith, brought-held xs x, search-less (bring x m), drain-less j (search (bring x m))));
       clock = k ∙ ap (λ (fs : List Frame). searched xs start + 384 * length fs) (sym e);
       offset = λ x. stepped H x m i .offset ∙ ap (λ (a : ℕ). grid a (length (step x m .sent))) (start-of x k (searched-append xs x start) (ap length e));
-      balance = signed (length H) (m .clock) (2 * m .later) (2 * m .earlier) (length (pending m)) (omega (arith, i .balance));
+      balance = signed (length H) (m .figures .clock) (2 * m .figures .later) (2 * m .figures .earlier) (length (pending m)) (omega (arith, i .balance));
       pushed = (stream-length xs, run-taken xs start ∙ omega arith, run-frames xs [] start inv-start ∙ omega (arith, ap length e));
       lock = lock-rule xs;
       soft = run-soft xs [] start inv-start;
     }
   where
-    start-of : (x : Input) → stateAfter xs .clock ≡ searched xs start + 384 * length (run xs start .sent)
+    start-of : (x : Input) → stateAfter xs .figures .clock ≡ searched xs start + 384 * length (run xs start .sent)
         → searched (xs ++ (x ∷ [])) start ≡ searched xs start + (length (pending (bring x (stateAfter xs))) - length (pending (search (bring x (stateAfter xs)))))
         → length (sentBy [] xs) ≡ length (run xs start .sent)
-        → stateAfter xs .clock + (length (pending (bring x (stateAfter xs))) - length (pending (search (bring x (stateAfter xs))))) ≡ searched (xs ++ (x ∷ [])) start + 384 * length (sentBy [] xs)
+        → stateAfter xs .figures .clock + (length (pending (bring x (stateAfter xs))) - length (pending (search (bring x (stateAfter xs))))) ≡ searched (xs ++ (x ∷ [])) start + 384 * length (sentBy [] xs)
     start-of x a b c = omega (arith, a, b, c)
 
 pub end-rule : endRule
@@ -340,4 +340,4 @@ end-rule xs =
     let H = stream xs in
     let n : length (pending m) ≡ length H - (i .lies .from + m .restorable) = lies-length H (m .held) (m .restorable) (i .lies) in
     let f = i .lies .fits in
-    signed (length H) (streamEnd m) (2 * m .later) (2 * m .earlier) 0 (omega (arith, i .balance)) ∙ +ℤ-idr (pos (streamEnd m) +ℤ netSlip m)
+    signed (length H) (streamEnd m) (2 * m .figures .later) (2 * m .figures .earlier) 0 (omega (arith, i .balance)) ∙ +ℤ-idr (pos (streamEnd m) +ℤ netSlip m)

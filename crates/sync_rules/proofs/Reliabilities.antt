@@ -22,12 +22,12 @@ unfolding everSoft
 soft-append [] x = sym (or-false (x .soft))
 soft-append (y ∷ xs) x = ap (λ (b : Bool). y .soft || b) (soft-append xs x) ∙ sym (or-assoc (y .soft) (everSoft xs) (x .soft))
 
-run-marked : (xs : List Input) (H W : List ℕ) (m : State) (i : Inv H m) → length W ≡ length H → m .reliabilities ≡ drop (i .lies .from) W → (x : Input) → Marked (search (bring x (run xs m .next)) .soft) (step x (run xs m .next) .sent)
+run-marked : (xs : List Input) (H W : List ℕ) (m : State) (i : Inv H m) → length W ≡ length H → m .reliabilities ≡ drop (i .lies .from) W → (x : Input) → Marked (search (bring x (run xs m .next)) .figures .soft) (step x (run xs m .next) .sent)
 unfolding run
 run-marked [] H W m i level beside x = stepped-marked H W x m i level beside
 run-marked (y ∷ xs) H W m i level beside x = run-marked xs (H ++ two y) (W ++ two-weights y) (step y m .next) (inv-step H y m i) (both-longer H W y level) (stepped-beside H W y m i level beside) x
 
-soft-then : (xs : List Input) (x : Input) → search (bring x (stateAfter xs)) .soft ≡ everSoft (xs ++ (x ∷ []))
+soft-then : (xs : List Input) (x : Input) → search (bring x (stateAfter xs)) .figures .soft ≡ everSoft (xs ++ (x ∷ []))
 soft-then xs x = inv-search (stream xs) x (stateAfter xs) (reached xs) .soft ∙ brought-soft x (stateAfter xs) ∙ ap (λ (b : Bool). b || x .soft) (run-soft xs [] start inv-start) ∙ sym (soft-append xs x)
 
 -- ---- the reliabilities of the stream's bits
@@ -60,7 +60,7 @@ pub step-reached : (x : Input) (m : State) (xs : List Input) → m ≡ stateAfte
 unfolding run
 step-reached x m xs e = ap (λ (n : State). step x n .next) e ∙ sym (run-next xs (x ∷ []) start)
 
-pub step-marked : (x : Input) (m : State) (xs : List Input) → m ≡ stateAfter xs → Marked (step x m .next .soft) (step x m .sent)
+pub step-marked : (x : Input) (m : State) (xs : List Input) → m ≡ stateAfter xs → Marked (step x m .next .figures .soft) (step x m .sent)
 step-marked x m xs e =
-    let soft : step x m .next .soft ≡ everSoft (xs ++ (x ∷ [])) = ap (λ (n : State). n .soft) (step-reached x m xs e) ∙ run-soft (xs ++ (x ∷ [])) [] start inv-start in
+    let soft : step x m .next .figures .soft ≡ everSoft (xs ++ (x ∷ [])) = ap (λ (n : State). n .figures .soft) (step-reached x m xs e) ∙ run-soft (xs ++ (x ∷ [])) [] start inv-start in
     subst (λ (b : Bool). Marked b (step x m .sent)) (sym soft) (subst (λ (n : State). Marked (everSoft (xs ++ (x ∷ []))) (step x n .sent)) (sym e) (reliability-rule xs .written x))

@@ -20,15 +20,15 @@ use Rattle.sync_rules.proofs.Lying.{Lies, lies-pending, lies-length, li
 use Rattle.sync_rules.proofs.Hunts.{two, first-is, first-missing}
 
 -- ---- searching
-pub search-at : (m : State) (p : ℕ) → m .locked ≡ false → firstOf (locksAt (pending m)) 0 (tries m) ≡ p → search m ≡ searchAt m p
+pub search-at : (m : State) (p : ℕ) → m .figures .locked ≡ false → firstOf (locksAt (pending m)) 0 (tries m) ≡ p → search m ≡ searchAt m p
 unfolding search
-search-at m p shut e = sym (cond-no (m .locked) (m .locked) m (searchAt m (firstOf (locksAt (pending m)) 0 (tries m))) refl shut) ∙ ap (searchAt m) e
+search-at m p shut e = sym (cond-no (m .figures .locked) (m .figures .locked) m (searchAt m (firstOf (locksAt (pending m)) 0 (tries m))) refl shut) ∙ ap (searchAt m) e
 
-not-locked : (m : State) → m .locked ≡ false → ready m ≡ false
+not-locked : (m : State) → m .figures .locked ≡ false → ready m ≡ false
 unfolding ready
-not-locked m shut = sym (and-f (m .locked) _ (m .locked) refl shut)
+not-locked m shut = sym (and-f (m .figures .locked) _ (m .figures .locked) refl shut)
 
-pub no-lock : (n : ℕ) (m : State) → m .locked ≡ false → drain n m ≡ record { sent = []; next = m }
+pub no-lock : (n : ℕ) (m : State) → m .figures .locked ≡ false → drain n m ≡ record { sent = []; next = m }
 unfolding drain
 no-lock zero m shut = refl
 no-lock (suc n) m shut = sym (cond-no (ready m) (ready m) _ _ refl (not-locked m shut))
@@ -36,18 +36,18 @@ no-lock (suc n) m shut = sym (cond-no (ready m) (ready m) _ _ refl (not-locked m
 -- no lock yet: the place of the first pending bit is between p and q, and the clock has gone as far as the place
 pub record Hunting (H : List ℕ) (m : State) (p c q : ℕ) : Type 0 where
   pub lies : Lies H (m .held) (m .restorable)
-  pub shut : m .locked ≡ false
+  pub shut : m .figures .locked ≡ false
   pub low : length H ≤ lies .from + m .restorable + 1151
   pub after : p ≤ lies .from + m .restorable
   pub reach : lies .from + m .restorable ≤ q
-  pub clock : m .clock + p ≡ c + (lies .from + m .restorable)
+  pub clock : m .figures .clock + p ≡ c + (lies .from + m .restorable)
 
 -- a lock, the next frame from place a on, its offset c
 pub record Riding (H : List ℕ) (m : State) (a c : ℕ) : Type 0 where
   pub lies : Lies H (m .held) (m .restorable)
   pub here : lies .from + m .restorable ≡ a
-  pub locked : m .locked ≡ true
-  pub clock : m .clock ≡ c
+  pub locked : m .figures .locked ≡ true
+  pub clock : m .figures .clock ≡ c
 
 -- the bits that a search looks at are the stream's
 looks : (H X : List ℕ) (m : State) (l : Lies H (m .held) (m .restorable)) (i b : ℕ) → b ≡ l .from + m .restorable + i → b + 1152 ≤ length H → locksAt (pending m) i ≡ locksAt (H ++ X) b
@@ -62,11 +62,11 @@ tries-are H m l = ap (λ (n : ℕ). n - 1151) (lies-length H (m .held) (m .resto
 -- a state just pushed into
 pub record Brought (H : List ℕ) (m : State) (p c q : ℕ) : Type 0 where
   pub lies : Lies H (m .held) (m .restorable)
-  pub shut : m .locked ≡ false
+  pub shut : m .figures .locked ≡ false
   pub low : length H ≤ lies .from + m .restorable + 1153
   pub after : p ≤ lies .from + m .restorable
   pub reach : lies .from + m .restorable ≤ q
-  pub clock : m .clock + p ≡ c + (lies .from + m .restorable)
+  pub clock : m .figures .clock + p ≡ c + (lies .from + m .restorable)
 
 pub brings : (H : List ℕ) (x : Input) (m : State) (p c q : ℕ) → Hunting H m p c q → Brought (H ++ two x) (bring x m) p c q
 unfolding bring lies-more
@@ -96,7 +96,7 @@ module _ (H X : List ℕ) (m : State) (p c q : ℕ) (b : Brought H m p c q)
     passed : search m ≡ searchAt m (tries m)
     passed = search-at m (tries m) (b .shut) nothing
 
-    still : searchAt m (tries m) .locked ≡ false
+    still : searchAt m (tries m) .figures .locked ≡ false
     unfolding searchAt
     still = le-ltb (tries m) (tries m) (omega arith)
 
@@ -166,7 +166,7 @@ module _ (H X : List ℕ) (m : State) (a c : ℕ) (r : Riding H m a c) where
   unfolding ready
   waits h =
       let n = left in
-      both (m .locked) (leb _ (length (pending m))) _ (lt-leb _ (length (pending m)) (omega arith))
+      both (m .figures .locked) (leb _ (length (pending m))) _ (lt-leb _ (length (pending m)) (omega arith))
     where
       both : (x y z : Bool) → y ≡ false → (x && (y && z)) ≡ false
       both true true z e = absurd (true≢false e)
@@ -184,7 +184,7 @@ module _ (H X : List ℕ) (m : State) (a c : ℕ) (r : Riding H m a c) where
     unfolding ready
     goes =
         let n = left in
-        all (m .locked) (leb _ (length (pending m))) (inPlace (pending m) 0) (leb _ (length (pending m))) (r .locked) (le-leb _ (length (pending m)) (omega arith)) placed
+        all (m .figures .locked) (leb _ (length (pending m))) (inPlace (pending m) 0) (leb _ (length (pending m))) (r .locked) (le-leb _ (length (pending m)) (omega arith)) placed
       where
         all : (x y z w : Bool) → x ≡ true → y ≡ true → z ≡ true → (x && (y && (z || w))) ≡ true
         all x y z w p q s = ap₂ (λ (i j : Bool). i && (j && (z || w))) p q ∙ ap (λ (i : Bool). i || w) s
@@ -212,7 +212,7 @@ module _ (H X : List ℕ) (m : State) (a c : ℕ) (r : Riding H m a c) where
     unfolding sendAt leave pass lies-pass
     rides-on =
         let e = r .here in
-        record { lies = lies-pass H (m .held) (m .restorable) _ (r .lies) (omega arith); here = omega arith; locked = ap (λ (b : Bool). cond b true (ltb (m .failures + 1) 3)) matched ∙ cond-true; clock = ap (λ (z : ℕ). z + 384) (r .clock) }
+        record { lies = lies-pass H (m .held) (m .restorable) _ (r .lies) (omega arith); here = omega arith; locked = ap (λ (b : Bool). cond b true (ltb (m .figures .failures + 1) 3)) matched ∙ cond-true; clock = ap (λ (z : ℕ). z + 384) (r .clock) }
       where
-        cond-true : cond true true (ltb (m .failures + 1) 3) ≡ true
-        cond-true = sym (cond-yes true true true (ltb (m .failures + 1) 3) refl refl)
+        cond-true : cond true true (ltb (m .figures .failures + 1) 3) ≡ true
+        cond-true = sym (cond-yes true true true (ltb (m .figures .failures + 1) 3) refl refl)

@@ -91,22 +91,22 @@ module _ (v w u : Move) where
         further = one-symbol u _ further-told;
       }
 
-  one-frame : (m n : State) → n .later ≡ m .later + (laters v + (laters w + laters u)) → n .earlier ≡ m .earlier + (earliers v + (earliers w + earliers u)) → SlippedBy m n (told v w u ∷ [])
+  one-frame : (m n : State) → n .figures .later ≡ m .figures .later + (laters v + (laters w + laters u)) → n .figures .earlier ≡ m .figures .earlier + (earliers v + (earliers w + earliers u)) → SlippedBy m n (told v w u ∷ [])
   unfolding netOfAll slipsOfAll AllInRange
   one-frame m n e f =
       let x = told v w u in
       let front = front-told v (moved w 128) (moved u (moved w 128 + 128)) in
       record {
         net =
-            sub-like (2 * n .later) (2 * n .earlier) (2 * m .later + (2 * laters v + 2 * (laters w + laters u))) (2 * m .earlier + (2 * earliers v + 2 * (earliers w + earliers u))) (omega arith)
-            ∙ sub-add (2 * m .later) (2 * m .earlier) (2 * laters v + 2 * (laters w + laters u)) (2 * earliers v + 2 * (earliers w + earliers u))
+            sub-like (2 * n .figures .later) (2 * n .figures .earlier) (2 * m .figures .later + (2 * laters v + 2 * (laters w + laters u))) (2 * m .figures .earlier + (2 * earliers v + 2 * (earliers w + earliers u))) (omega arith)
+            ∙ sub-add (2 * m .figures .later) (2 * m .figures .earlier) (2 * laters v + 2 * (laters w + laters u)) (2 * earliers v + 2 * (earliers w + earliers u))
             ∙ ap (λ (z : ℤ). netSlip m +ℤ z) (sym (net-sum x (2 * laters v) (2 * earliers v) (2 * (laters w + laters u)) (2 * (earliers w + earliers u)) front (third-told v w u)) ∙ sym (+ℤ-idr (netOf x)));
         followed = omega (arith, slips-sum x v w u front (second-told v w u) further-told);
         ranges = (in-range, tt);
       }
 
 -- the counts of a followed front move
-pub followed : (v : Move) (m : State) → (follow v m .later ≡ m .later + laters v) × (follow v m .earlier ≡ m .earlier + earliers v)
+pub followed : (v : Move) (m : State) → (follow v m .figures .later ≡ m .figures .later + laters v) × (follow v m .figures .earlier ≡ m .figures .earlier + earliers v)
 unfolding follow counted pass restore laters earliers
 followed Stay m = (omega arith, omega arith)
 followed Later m = (refl, refl)
@@ -116,7 +116,7 @@ in-place-slips : (m : State) → SlippedBy m (sendAt Stay m 128 256 .next) (send
 unfolding sendAt leave frameAt moved laters earliers
 in-place-slips m = one-frame Stay Stay Stay m (sendAt Stay m 128 256 .next) (omega arith) (omega arith)
 
-shifted-slips : (v : Move) (m n : State) → (n .later ≡ m .later + laters v) → (n .earlier ≡ m .earlier + earliers v) → SlippedBy m (sendShifted v n .next) (sendShifted v n .frame .moves ∷ [])
+shifted-slips : (v : Move) (m n : State) → (n .figures .later ≡ m .figures .later + laters v) → (n .figures .earlier ≡ m .figures .earlier + earliers v) → SlippedBy m (sendShifted v n .next) (sendShifted v n .frame .moves ∷ [])
 unfolding sendShifted sendAt leave frameAt counted
 shifted-slips v m n e f = one-frame v (secondShift n) (thirdShift n) m (sendShifted v n .next) (omega arith) (omega arith)
 
@@ -148,7 +148,7 @@ moves-append [] gs = refl
 moves-append (f ∷ fs) gs = ap (λ (vs : List Moves). f .moves ∷ vs) (moves-append fs gs)
 
 -- no frame, and the counts stay
-none : (m n : State) → n .later ≡ m .later → n .earlier ≡ m .earlier → SlippedBy m n []
+none : (m n : State) → n .figures .later ≡ m .figures .later → n .figures .earlier ≡ m .figures .earlier → SlippedBy m n []
 unfolding netOfAll slipsOfAll AllInRange
 none m n e f = record { net = ap₂ (λ (i j : ℕ). subℕ (2 * i) (2 * j)) e f ∙ sym (+ℤ-idr (netSlip m)); followed = omega arith; ranges = tt }
 
@@ -172,7 +172,7 @@ drain-slips (suc n) m =
 
 search-slips : (x : Input) (m : State) → SlippedBy m (search (bring x m)) []
 unfolding search searchAt bring
-search-slips x m = cond-cases (λ (n : State). SlippedBy m n []) (m .locked) _ _ (λ t. none m _ refl refl) (λ w. none m _ refl refl)
+search-slips x m = cond-cases (λ (n : State). SlippedBy m n []) (m .figures .locked) _ _ (λ t. none m _ refl refl) (λ w. none m _ refl refl)
 
 step-slips : (x : Input) (m : State) → SlippedBy m (step x m .next) (movesOf (step x m .sent))
 unfolding step

@@ -21,10 +21,10 @@ use Rattle.sync_rules.proofs.Rides.{search-at, no-lock}
 
 -- n has the figures of m that a quiet push keeps, and d bits more are pending at most
 record Still (m n : State) (d : ℕ) : Type 0 where
-  clock : n .clock ≡ m .clock
-  locked : n .locked ≡ m .locked
-  later : n .later ≡ m .later
-  earlier : n .earlier ≡ m .earlier
+  clock : n .figures .clock ≡ m .figures .clock
+  locked : n .figures .locked ≡ m .figures .locked
+  later : n .figures .later ≡ m .figures .later
+  earlier : n .figures .earlier ≡ m .figures .earlier
   pending : length (pending n) ≤ length (pending m) + d
 
 still-then : (m n o : State) (d e : ℕ) → Still m n d → Still n o e → Still m o (d + e)
@@ -44,7 +44,7 @@ none-tried m h = omega arith
 passed-none : (r : ℕ) (l : List ℕ) → length (drop (min 2 (r + 0)) (drop (r + 0 - 2) l)) ≡ length (drop r l)
 passed-none r l = omega (arith, length-drop (min 2 (r + 0)) (drop (r + 0 - 2) l), length-drop (r + 0 - 2) l, length-drop r l)
 
-at-still : (m : State) → m .locked ≡ false → length (pending m) ≤ 1151 → Still m (searchAt m 0) 0
+at-still : (m : State) → m .figures .locked ≡ false → length (pending m) ≤ 1151 → Still m (searchAt m 0) 0
 unfolding searchAt pass
 at-still m w h =
     record { clock = omega arith; locked = le-ltb 0 (tries m) (omega (arith, none-tried m h)) ∙ sym w; later = refl; earlier = refl; pending = omega (arith, passed-none (m .restorable) (m .held)) }
@@ -68,9 +68,9 @@ unfolding drain
 no-frame zero m w = refl
 no-frame (suc n) m w = sym (cond-no (ready m) (ready m) _ _ refl w)
 
-locked-search : (m : State) → m .locked ≡ true → search m ≡ m
+locked-search : (m : State) → m .figures .locked ≡ true → search m ≡ m
 unfolding search
-locked-search m t = sym (cond-yes (m .locked) (m .locked) m _ refl t)
+locked-search m t = sym (cond-yes (m .figures .locked) (m .figures .locked) m _ refl t)
 
 rests-as : (m n : State) → search m ≡ n → Still m n 0 → length (pending n) ≡ length (pending m) → drain 3 n ≡ record { sent = []; next = n } → Rests m
 rests-as m n e a b c =
@@ -84,7 +84,7 @@ same-length : (m : State) → length (pending (searchAt m 0)) ≡ length (pendin
 unfolding searchAt pass
 same-length m = passed-none (m .restorable) (m .held)
 
-rests : (m : State) (b : Bool) → m .locked ≡ b → length (pending m) ≤ cond b 383 1151 → Rests m
+rests : (m : State) (b : Bool) → m .figures .locked ≡ b → length (pending m) ≤ cond b 383 1151 → Rests m
 rests m true t h =
     rests-as m m (locked-search m t) (record { clock = refl; locked = refl; later = refl; earlier = refl; pending = omega arith }) refl (no-frame 3 m (not-enough m h (ready m) refl))
 rests m false w h =
@@ -97,11 +97,11 @@ record Waits (x : Input) (m : State) : Type 0 where
   still : Still m (step x m .next) 2
   none : length (pending (bring x m)) - length (pending (search (bring x m))) ≡ 0
 
-waits : (x : Input) (m : State) → length (pending m) + 2 ≤ cond (m .locked) 383 1151 → Waits x m
+waits : (x : Input) (m : State) → length (pending m) + 2 ≤ cond (m .figures .locked) 383 1151 → Waits x m
 unfolding step
 waits x m h =
     let b = brought-still x m in
-    let r = rests (bring x m) (m .locked) (b .locked) (omega (arith, b .pending)) in
+    let r = rests (bring x m) (m .figures .locked) (b .locked) (omega (arith, b .pending)) in
     record {
       sent = ap (λ (o : Out). o .sent) (r .silent);
       still = subst (λ (z : State). Still m z 2) (sym (ap (λ (o : Out). o .next) (r .silent))) (still-then m (bring x m) (search (bring x m)) 2 0 b (r .found));
@@ -115,18 +115,18 @@ no-push m = record { sent = refl; clock = refl; searched = refl; locked = refl; 
 -- one push less
 one-less : (m n : State) → Still m n 2 → quiet m ≤ 1 + quiet n
 unfolding quiet
-one-less m n s = fewer (mostIdle (m .locked)) (mostIdle (n .locked)) (length (pending m)) (length (pending n)) (ap mostIdle (s .locked)) (s .pending)
+one-less m n s = fewer (mostIdle (m .figures .locked)) (mostIdle (n .figures .locked)) (length (pending m)) (length (pending n)) (ap mostIdle (s .locked)) (s .pending)
   where
     fewer : (c d p q : ℕ) → d ≡ c → q ≤ p + 2 → (c - p) / 2 ≤ 1 + (d - q) / 2
     fewer c d p q e h = omega arith
 
-many : (xs : List Input) (m : State) → length (pending m) + 2 * length xs ≤ cond (m .locked) 383 1151 → Quiet xs m
+many : (xs : List Input) (m : State) → length (pending m) + 2 * length xs ≤ cond (m .figures .locked) 383 1151 → Quiet xs m
 unfolding run searched
 many [] m h = no-push m
 many (x ∷ xs) m h =
     let w = waits x m (omega arith) in
     let s = w .still in
-    let l : _≡_ {A = ℕ} (cond (step x m .next .locked) 383 1151) (cond (m .locked) 383 1151) = ap (λ (b : Bool). cond b 383 1151) (s .locked) in
+    let l : _≡_ {A = ℕ} (cond (step x m .next .figures .locked) 383 1151) (cond (m .figures .locked) 383 1151) = ap (λ (b : Bool). cond b 383 1151) (s .locked) in
     let q = many xs (step x m .next) (omega (arith, s .pending)) in
     record {
       sent = ap₂ (λ (a b : List Frame). a ++ b) (w .sent) (q .sent);
@@ -148,14 +148,14 @@ then-some false = omega arith
 
 pub quiet-rule : quietRule
 unfolding quiet
-quiet-rule m = record { still = fits; most = enough (cond (m .locked) 384 1152) (mostIdle (m .locked)) (length (pending m)) (then-some (m .locked)) }
+quiet-rule m = record { still = fits; most = enough (cond (m .figures .locked) 384 1152) (mostIdle (m .figures .locked)) (length (pending m)) (then-some (m .figures .locked)) }
   where
     room : (c p n : ℕ) → 1 ≤ n → n ≤ (c - p) / 2 → p + 2 * n ≤ c
     room c p n h k = omega arith
 
     fits : (xs : List Input) → length xs ≤ quiet m → Quiet xs m
     fits [] k = no-push m
-    fits (y ∷ ys) k = many (y ∷ ys) m (omega (arith, room (mostIdle (m .locked)) (length (pending m)) (length (y ∷ ys)) (omega arith) k, nothing-yet (m .locked)))
+    fits (y ∷ ys) k = many (y ∷ ys) m (omega (arith, room (mostIdle (m .figures .locked)) (length (pending m)) (length (y ∷ ys)) (omega arith) k, nothing-yet (m .figures .locked)))
 
     enough : (e c p : ℕ) → e ≤ suc c → e ≤ p + 2 * suc ((c - p) / 2)
     enough e c p h = omega arith

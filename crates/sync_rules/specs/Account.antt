@@ -76,7 +76,7 @@ passed (Shown f ∷ ps) = passed ps
 -- between offsets); what the moves skip or show again the slip figures count (`moveRule`, Slips.antt).
 pub record Account (xs : List Input) : Type 0 where
   pub way : List Piece
-  pub leads : Leads (stream xs) (weights xs) 0 0 way (placeOf xs) (stateAfter xs .clock)
+  pub leads : Leads (stream xs) (weights xs) 0 0 way (placeOf xs) (stateAfter xs .figures .clock)
   pub frames : framesIn way ≡ sentBy [] xs
   pub gaps : passed way ≡ searched xs start
 

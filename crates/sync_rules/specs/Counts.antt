@@ -45,7 +45,7 @@ poor n (f ∷ fs) = poor (cond (f .matched) 0 (suc n)) fs
 unfoldable pub lockSent : List Input → State → List Frame → List Frame
 unfolding step
 lockSent [] m fs = fs
-lockSent (x ∷ xs) m fs = lockSent xs (step x m .next) (cond (m .locked) fs [] ++ step x m .sent)
+lockSent (x ∷ xs) m fs = lockSent xs (step x m .next) (cond (m .figures .locked) fs [] ++ step x m .sent)
 
 -- ---- the bits that searches pass between frames
 

@@ -30,7 +30,7 @@ weights (x ∷ xs) = x .ofFirst ∷ x .ofSecond ∷ weights xs
 -- So this is every loss of lock, without asking whether one push can both take and lose a lock. (None can: `LockRule`'s `found`, specs/Statements.antt.)
 unfoldable pub Loses : Input → State → Type 0
 unfolding search bring step
-Loses x m = (search (bring x m) .locked ≡ true) × (step x m .next .locked ≡ false)
+Loses x m = (search (bring x m) .figures .locked ≡ true) × (step x m .next .figures .locked ≡ false)
 
 -- a search begins once `before` is pushed: nothing is pushed yet, or the last push ended a lock
 unfoldable pub Begins : List Input → Type 0

@@ -1,14 +1,15 @@
 -- A frame: when one is ready, how its front and its segments are found, what is said of it, and the state that it leaves.
 -- Assumes nothing.
 use mathlib.Core.List.{List, [], _++_}
-use mathlib.Core.Bool.{Bool, true, cond, _&&_, _||_}
+use mathlib.Core.Bool.{Bool, cond, _&&_, _||_}
 use Prim.Native.Nat.{ℕ, _+_}
 use lib.ListN.{length, take, drop}
-use lib.Dec.{leb, ltb, eqb}
+use lib.Dec.{leb, eqb}
 use Rattle.sync_rules.specs.declared.Moves.{Moves}
 use Rattle.sync_rules.specs.Matching.{matches, errors, twoOf, inPlace}
+use Rattle.sync_rules.specs.Figures.{frameSent}
 use Rattle.sync_rules.specs.Moves.{Move, Stay, Later, Earlier, moved, inBits, movesAt, moveBy, moveTo}
-use Rattle.sync_rules.specs.State.{State, pending, pass, restore, counted}
+use Rattle.sync_rules.specs.State.{State, pending, withFigures, pass, restore, counted}
 
 pub record Frame : Type 0 where
   pub offset : ℕ
@@ -21,7 +22,7 @@ pub record Frame : Type 0 where
 -- locked, and 384 bits pending of a frame in place, 392 of one that is not
 unfoldable pub ready : State → Bool
 unfolding inPlace
-ready m = m .locked && (leb 384 (length (pending m)) && (inPlace (pending m) 0 || leb 392 (length (pending m))))
+ready m = m .figures .locked && (leb 384 (length (pending m)) && (inPlace (pending m) 0 || leb 392 (length (pending m))))
 
 -- the front move of a frame that is not in place: its first marker is looked for where it is due, a symbol later, and a symbol earlier, where the two
 -- restorable bits begin
@@ -61,14 +62,12 @@ unfoldable pub frameAt : Move → State → ℕ → ℕ → Frame
 unfolding cut twoOf matches errors inBits
 frameAt v m p q =
     let xs = pending m in
-    record { offset = m .clock; matched = twoOf (matches xs 0 0) (matches xs p 1) (matches xs q 2); errors = errors xs 0 0 + errors xs p 1 + errors xs q 2; moves = movesAt v p q; bits = cut xs p q; reliabilities = cond (m .soft) (cut (drop (m .restorable) (m .reliabilities)) p q) [] }
+    record { offset = m .figures .clock; matched = twoOf (matches xs 0 0) (matches xs p 1) (matches xs q 2); errors = errors xs 0 0 + errors xs p 1 + errors xs q 2; moves = movesAt v p q; bits = cut xs p q; reliabilities = cond (m .figures .soft) (cut (drop (m .restorable) (m .reliabilities)) p q) [] }
 
--- the state that a frame leaves whose third segment starts at q; lock ends with the third frame in a row that is not matched
+-- the state that a frame leaves whose third segment starts at q
 unfoldable pub leave : State → ℕ → Bool → State
 unfolding pass
-leave m q matched =
-    let n = pass (q + 128) m in
-    record { held = n .held; reliabilities = n .reliabilities; restorable = n .restorable; taken = m .taken; clock = m .clock + 384; later = m .later; earlier = m .earlier; frames = m .frames + 1; synchronised = m .synchronised + cond matched 1 0; failures = cond matched 0 (m .failures + 1); locked = cond matched true (ltb (m .failures + 1) 3); soft = m .soft }
+leave m q matched = withFigures (frameSent matched (m .figures)) (pass (q + 128) m)
 
 -- a frame, and the state that it leaves
 pub record Sent : Type 0 where

@@ -1,5 +1,6 @@
 pub mod Matching
 pub mod Moves
+pub mod Figures
 pub mod State
 pub mod Frames
 pub mod Pushes

@@ -6,7 +6,8 @@ use Prim.Native.Nat.{ℕ, zero, suc, _+_, _-_, _/_}
 use lib.ListN.{length}
 use lib.Dec.{ltb}
 use Rattle.sync_rules.specs.Matching.{locksAt, firstOf}
-use Rattle.sync_rules.specs.State.{State, Input, pending, pass, bring}
+use Rattle.sync_rules.specs.Figures.{bitsPassed}
+use Rattle.sync_rules.specs.State.{State, Input, pending, withFigures, pass, bring}
 use Rattle.sync_rules.specs.Frames.{Frame, ready, send}
 
 -- at how many places a search tries: those from which 1,152 bits are pending
@@ -16,15 +17,12 @@ tries m = length (pending m) - 1151
 -- p bits passed in a search, and a lock if they are fewer than the places tried
 unfoldable pub searchAt : State → ℕ → State
 unfolding pass tries
-searchAt m p =
-    let n = pass p m in
-    let found = ltb p (tries m) in
-    record { held = n .held; reliabilities = n .reliabilities; restorable = n .restorable; taken = m .taken; clock = m .clock + p; later = m .later; earlier = m .earlier; frames = m .frames; synchronised = m .synchronised; failures = cond found 0 (m .failures); locked = found; soft = m .soft }
+searchAt m p = withFigures (bitsPassed p (ltb p (tries m)) (m .figures)) (pass p m)
 
 -- without a lock: up to the first place where three frames show themselves, past all that were tried if there is none
 unfoldable pub search : State → State
 unfolding firstOf locksAt searchAt tries
-search m = cond (m .locked) m (searchAt m (firstOf (locksAt (pending m)) 0 (tries m)))
+search m = cond (m .figures .locked) m (searchAt m (firstOf (locksAt (pending m)) 0 (tries m)))
 
 -- the frames sent, and the state after them
 pub record Out : Type 0 where
@@ -60,4 +58,4 @@ mostIdle locked = cond locked 383 1151
 
 -- how many pushes can follow of which none searches or sends, whatever they bring
 unfoldable pub quiet : State → ℕ
-quiet m = (mostIdle (m .locked) - length (pending m)) / 2
+quiet m = (mostIdle (m .figures .locked) - length (pending m)) / 2

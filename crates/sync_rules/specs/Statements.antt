@@ -16,36 +16,36 @@ use Rattle.sync_rules.specs.Counts.{stateAfter, searched, everSoft, offs
 -- while it holds there are fewer than three, a push that ends it has made them three, and no frame of it goes out after three.
 -- And no push both takes and loses a lock: one that ends a lock found it there.
 pub record LockRule (xs : List Input) (fs : List Frame) : Type 0 where
-  pub holds : stateAfter xs .locked ≡ true → poor 0 fs < 3
+  pub holds : stateAfter xs .figures .locked ≡ true → poor 0 fs < 3
   pub ends : (x : Input) → Loses x (stateAfter xs) → poor 0 (lockSent (xs ++ (x ∷ [])) start []) ≡ 3
-  pub found : (x : Input) → Loses x (stateAfter xs) → stateAfter xs .locked ≡ true
+  pub found : (x : Input) → Loses x (stateAfter xs) → stateAfter xs .figures .locked ≡ true
   pub before : (gs : List Frame) (f : Frame) (hs : List Frame) → fs ≡ gs ++ (f ∷ hs) → poor 0 gs < 3
 
 pub record Rules (xs : List Input) : Type 0 where
   -- "After any push fewer than 392 bits are pending when locked, fewer than 1,152 when searching;
-  pub locked : stateAfter xs .locked ≡ true → length (pending (stateAfter xs)) < 392
-  pub searching : stateAfter xs .locked ≡ false → length (pending (stateAfter xs)) < 1152
+  pub locked : stateAfter xs .figures .locked ≡ true → length (pending (stateAfter xs)) < 392
+  pub searching : stateAfter xs .figures .locked ≡ false → length (pending (stateAfter xs)) < 1152
   -- at most 1,155 are held at any instant": once a push has brought its two, after its search, and after each of its frames
   pub held : (x : Input) → (length (bring x (stateAfter xs) .held) ≤ 1155) × ((n : ℕ) → length (drain n (search (bring x (stateAfter xs))) .next .held) ≤ 1155)
   -- the pending bits are the stream's last ones
   pub place : (pending (stateAfter xs) ≡ drop (placeOf xs) (stream xs)) × (placeOf xs ≤ length (stream xs))
   -- "The reported offset is bits passed in searches plus 384 per earlier frame": the clock, and the offsets of the frames of one more push
-  pub clock : stateAfter xs .clock ≡ searched xs start + 384 * length (sentBy [] xs)
+  pub clock : stateAfter xs .figures .clock ≡ searched xs start + 384 * length (sentBy [] xs)
   pub offset : (x : Input) → let now = step x (stateAfter xs) .sent in offsets now ≡ grid (searched (xs ++ (x ∷ [])) start + 384 * length (sentBy [] xs)) (length now)
   -- "bits pushed equal that clock plus the signed net slip plus bits pending"
-  pub balance : pos (length (stream xs)) ≡ pos (stateAfter xs .clock) +ℤ netSlip (stateAfter xs) +ℤ pos (length (pending (stateAfter xs)))
-  pub pushed : (length (stream xs) ≡ 2 * length xs) × (stateAfter xs .taken ≡ length xs) × (stateAfter xs .frames ≡ length (sentBy [] xs))
+  pub balance : pos (length (stream xs)) ≡ pos (stateAfter xs .figures .clock) +ℤ netSlip (stateAfter xs) +ℤ pos (length (pending (stateAfter xs)))
+  pub pushed : (length (stream xs) ≡ 2 * length xs) × (stateAfter xs .figures .taken ≡ length xs) × (stateAfter xs .figures .frames ≡ length (sentBy [] xs))
   pub lock : LockRule xs (lockSent xs start [])
   -- the soft mark is never cleared
-  pub soft : stateAfter xs .soft ≡ everSoft xs
+  pub soft : stateAfter xs .figures .soft ≡ everSoft xs
 
 abbrev pub rules : Type 0
 rules = (xs : List Input) → Rules xs
 
 -- `settled` is the offset below which no further frame goes out: that of every frame of any further pushes ys is as high, and it never falls
 pub record Settled (xs ys : List Input) : Type 0 where
-  pub above : (i : ℕ) → i < length (sentBy xs ys) → stateAfter xs .clock ≤ getD (offsets (sentBy xs ys)) i 0
-  pub never-falls : stateAfter xs .clock ≤ stateAfter (xs ++ ys) .clock
+  pub above : (i : ℕ) → i < length (sentBy xs ys) → stateAfter xs .figures .clock ≤ getD (offsets (sentBy xs ys)) i 0
+  pub never-falls : stateAfter xs .figures .clock ≤ stateAfter (xs ++ ys) .figures .clock
 
 abbrev pub settledRule : Type 0
 settledRule = (xs ys : List Input) → Settled xs ys
@@ -70,17 +70,17 @@ endRule = (xs : List Input) → pos (length (stream xs)) ≡ pos (streamEnd (sta
 -- many pushes as are left of `quiet` can follow so.
 pub record Quiet (xs : List Input) (m : State) : Type 0 where
   pub sent : run xs m .sent ≡ []
-  pub clock : run xs m .next .clock ≡ m .clock
+  pub clock : run xs m .next .figures .clock ≡ m .figures .clock
   pub searched : searched xs m ≡ 0
-  pub locked : run xs m .next .locked ≡ m .locked
-  pub slips : (run xs m .next .later ≡ m .later) × (run xs m .next .earlier ≡ m .earlier)
+  pub locked : run xs m .next .figures .locked ≡ m .figures .locked
+  pub slips : (run xs m .next .figures .later ≡ m .figures .later) × (run xs m .next .figures .earlier ≡ m .figures .earlier)
   pub rest : quiet m ≤ length xs + quiet (run xs m .next)
 
 -- `quiet` of any state: pushes that are no more than it says search and send nothing; with one more, as many bits are pending as a frame in place has, or
 -- without a lock as a search wants.
 pub record QuietRule (m : State) : Type 0 where
   pub still : (xs : List Input) → length xs ≤ quiet m → Quiet xs m
-  pub most : cond (m .locked) 384 1152 ≤ length (pending m) + 2 * suc (quiet m)
+  pub most : cond (m .figures .locked) 384 1152 ≤ length (pending m) + 2 * suc (quiet m)
 
 abbrev pub quietRule : Type 0
 quietRule = (m : State) → QuietRule m

@@ -24,6 +24,19 @@ pub struct Head {
     pub moves: Moves,
 }
 
+// What a synchroniser has counted, and whether it holds a lock: all of its state but the bits that it holds.
+pub struct StreamFigures {
+    pub taken: u64, // dibits taken
+    pub clock: u64, // bits passed in searches, and 384 for each frame
+    pub later: u64, // slips followed to a symbol later: two bits passed over for each
+    pub earlier: u64, // slips followed to a symbol earlier: two bits taken back for each
+    pub frames: u64, // frames sent
+    pub synchronised: u64, // those of them that showed two markers
+    pub failures: u8, // frames in a row that did not
+    pub locked: bool,
+    pub soft: bool, // a soft push has been made
+}
+
 // No moves.
 pub fn no_moves() -> Moves
     ensures { λ r. ⌜ r ≡ noMoves ⌝ }

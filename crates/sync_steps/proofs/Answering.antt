@@ -65,7 +65,7 @@ pub record PushedInto (bits reliabilities bits′ reliabilities′ room room′ 
   -- a refused push leaves the rings and the numbers as they were
   pub kept : takes a ≡ 0 → (bits′ ≡ bits) × (reliabilities′ ≡ reliabilities) × (d .numbers ≡ k)
 
-module _ (bits reliabilities room : List ℕ) (k : Numbers) (x : Input) (a : Push) (e : a ≡ answerBy (length room) (x .dibit) (k .taken)) where
+module _ (bits reliabilities room : List ℕ) (k : Numbers) (x : Input) (a : Push) (e : a ≡ answerBy (length room) (x .dibit) (k .figures .taken)) where
   abbrev M : State
   M = viewOf bits reliabilities k
 

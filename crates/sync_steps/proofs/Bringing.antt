@@ -2,7 +2,6 @@
 -- Assumes nothing.
 use mathlib.Core.Path.{_≡_, sym, ap, ap₂, _∙_, subst}
 use mathlib.Core.List.{List, [], _∷_, _++_, append-assoc}
-use mathlib.Core.Bool.{_||_}
 use Prim.Native.Nat.{ℕ, _+_, _/_, _%_, _≤_, _<_, _^_}
 use native.Mathlib.Omega.{arith}
 use lib.ListN.{length, set, length-set}
@@ -12,6 +11,7 @@ use Rattle.bits.specs.Bit.{Bits}
 use Rattle.bits.proofs.BelowSets.{below-set}
 use Rattle.sync_numbers.specs.View.{viewOf, Steady}
 use Rattle.sync_steps.specs.Steps.{Brought, Searched, appendedTo}
+use Rattle.sync_rules.specs.Figures.{dibitTaken}
 use Rattle.sync_rules.specs.State.{State, Input, bring}
 use Rattle.sync_rules.specs.Pushes.{search, drain, step}
 use Rattle.sync_rings.proofs.Rings.{ring-put}
@@ -25,7 +25,7 @@ put-two xs f n a b e h m em =
     ∙ ap (λ (l : List ℕ). l ++ (b ∷ [])) (ring-put xs f n a e (omega arith))
     ∙ append-assoc (ring xs f n) (a ∷ []) (b ∷ [])
 
-module _ (xs ys : List ℕ) (c : Numbers) (lx : length xs ≡ 1155) (ly : length ys ≡ 1155) (st : Steady c) (few : c .pending ≤ 1151) (room? : c .taken < 2 ^ 40) (x : Input) where
+module _ (xs ys : List ℕ) (c : Numbers) (lx : length xs ≡ 1155) (ly : length ys ≡ 1155) (st : Steady c) (few : c .pending ≤ 1151) (room? : c .figures .taken < 2 ^ 40) (x : Input) where
   abbrev pub newBits : List ℕ
   newBits = set (set xs ((c .first + (c .restorable + c .pending)) % 1155) (x .dibit / 2)) ((c .first + (c .restorable + c .pending) + 1) % 1155) (x .dibit % 2)
 
@@ -33,7 +33,7 @@ module _ (xs ys : List ℕ) (c : Numbers) (lx : length xs ≡ 1155) (ly : length
   newRels = set (set ys ((c .first + (c .restorable + c .pending)) % 1155) (x .ofFirst)) ((c .first + (c .restorable + c .pending) + 1) % 1155) (x .ofSecond)
 
   abbrev bringing : List ℕ → List ℕ → State
-  bringing h r = record { held = h; reliabilities = r; restorable = c .restorable; taken = c .taken + 1; clock = c .clock; later = c .later; earlier = c .earlier; frames = c .frames; synchronised = c .synchronised; failures = c .failures; locked = c .locked; soft = c .soft || x .soft }
+  bringing h r = record { held = h; reliabilities = r; restorable = c .restorable; figures = dibitTaken (x .soft) (c .figures) }
 
   pub binary-new : Bits xs → x .dibit < 4 → Bits newBits
   binary-new h l = below-set (set xs ((c .first + (c .restorable + c .pending)) % 1155) (x .dibit / 2)) ((c .first + (c .restorable + c .pending) + 1) % 1155) (x .dibit % 2) (below-set xs ((c .first + (c .restorable + c .pending)) % 1155) (x .dibit / 2) h (omega arith)) (omega arith)

@@ -76,7 +76,7 @@ pub record Feeding (xs : List Input) (room₀ : List ℕ) (m₀ : State) (room b
   pub steady : Steady numbers
   pub rings : Rings bits reliabilities
   pub few : Few numbers
-  pub counted : numbers .taken ≡ m₀ .taken + used
+  pub counted : numbers .figures .taken ≡ m₀ .figures .taken + used
   pub ahead : fedOf (length room₀) xs m₀ ≡ further used (fedOf (length room₀) (drop used xs) (viewOf bits reliabilities numbers))
 
 pub fed-as : (bits reliabilities room room′ : List ℕ) (o : FedOut) (a : Push) (n : ℕ) (d : Drained) (r : Into) → r ≡ intoOf a n d → FedInto bits reliabilities room room′ o (intoOf a n d) → FedInto bits reliabilities room room′ o r
@@ -152,8 +152,8 @@ module _ (xs : List Input) (room₀ : List ℕ) (m₀ : State) (room bits reliab
       next : viewOf bits′ reliabilities′ (d .numbers) ≡ step x M .next
       next = P .drained .next ∙ ap (λ (o : Out). o .next) same-out
 
-      stepped-taken : (z : State) → z .taken ≡ M .taken + 1 → viewOf bits′ reliabilities′ (d .numbers) ≡ z → d .numbers .taken ≡ numbers .taken + 1
-      stepped-taken z h e = ap (λ (s : State). s .taken) e ∙ h
+      stepped-taken : (z : State) → z .figures .taken ≡ M .figures .taken + 1 → viewOf bits′ reliabilities′ (d .numbers) ≡ z → d .numbers .figures .taken ≡ numbers .figures .taken + 1
+      stepped-taken z h e = ap (λ (s : State). s .figures .taken) e ∙ h
 
       pub feed-goes-on : d .count ≡ 0 → Feeding xs room₀ m₀ room′ bits′ reliabilities′ (d .numbers) (used + 1)
       unfolding laid

@@ -20,7 +20,7 @@ answerBy room dibit taken =
 -- of the push x on the state m
 unfoldable pub answerTo : ℕ → Input → State → Push
 unfolding answerBy
-answerTo room x m = answerBy room (x .dibit) (m .taken)
+answerTo room x m = answerBy room (x .dibit) (m .figures .taken)
 
 -- what the push x then does to the state m: "A refused call returns only the number and writes nowhere"
 unfoldable pub pushOf : Push → Input → State → Out

@@ -2,18 +2,19 @@
 -- Assumes nothing.
 use mathlib.Core.Path.{_≡_}
 use mathlib.Core.List.{List}
-use mathlib.Core.Bool.{Bool, true, false, _||_}
+use mathlib.Core.Bool.{Bool, true, false}
 use Prim.Native.Nat.{ℕ, _+_, _≤_, _<_}
 use Rattle.sync_numbers.specs.declared.numbers.Numbers.{Numbers}
 use Rattle.sync_frames.specs.declared.frames.Drained.{Drained}
 use Rattle.sync_steps.specs.declared.pushes.Given.{Given}
 use Rattle.sync_numbers.specs.View.{viewOf, Sound, Low, Steady, Rings}
+use Rattle.sync_rules.specs.Figures.{dibitTaken}
 use Rattle.sync_rules.specs.State.{Input, bring}
 use Rattle.sync_rules.specs.Pushes.{search, drain}
 use Rattle.sync_frames.specs.Frames.{DrainedBy}
 
 abbrev pub appendedTo : Numbers → Bool → Numbers
-appendedTo c soft = record { first = c .first; restorable = c .restorable; pending = c .pending + 2; taken = c .taken + 1; clock = c .clock; later = c .later; earlier = c .earlier; frames = c .frames; synchronised = c .synchronised; failures = c .failures; locked = c .locked; soft = c .soft || soft }
+appendedTo c soft = record { first = c .first; restorable = c .restorable; pending = c .pending + 2; figures = dibitTaken soft (c .figures) }
 
 -- what a push brings
 abbrev pub inputOf : Given → Input
@@ -34,16 +35,16 @@ pub record Brought (bits reliabilities bits′ reliabilities′ : List ℕ) (c :
 
 -- too few bits are pending for a frame, and without a lock for a search
 abbrev pub Waiting : Numbers → Type 0
-Waiting c = (c .locked ≡ true → c .pending < 384) × (c .pending ≤ 1151)
+Waiting c = (c .figures .locked ≡ true → c .pending < 384) × (c .pending ≤ 1151)
 
 pub record Searched (bits : List ℕ) (c r : Numbers) : Type 0 where
   pub sound : Sound r
   pub same : (ys : List ℕ) → viewOf bits ys r ≡ search (viewOf bits ys c)
   pub low : Low r
-  pub slips : r .later + r .earlier ≡ c .later + c .earlier
-  pub frames : r .frames ≡ c .frames
-  pub fails : r .locked ≡ true → r .failures ≤ 2
-  pub few : r .locked ≡ false → r .pending ≤ 1151
+  pub slips : r .figures .later + r .figures .earlier ≡ c .figures .later + c .figures .earlier
+  pub frames : r .figures .frames ≡ c .figures .frames
+  pub fails : r .figures .locked ≡ true → r .figures .failures ≤ 2
+  pub few : r .figures .locked ≡ false → r .pending ≤ 1151
 
 -- the search and the frames of a push whose bits are brought
 abbrev pub SentAfter : List ℕ → List ℕ → List ℕ → List ℕ → Numbers → Drained → Type 0

@@ -152,7 +152,7 @@ pub fn feed_into(
     loop {
         let x = push_of(source, dibits, reliable, start, used);
         if x.more {
-            let answer = answer_to(numbers.taken, x.dibit, room.len());
+            let answer = answer_to(numbers.figures.taken, x.dibit, room.len());
             let took = made(answer);
             if took == 0 {
                 let none = nothing(numbers);

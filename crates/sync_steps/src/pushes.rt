@@ -1,6 +1,6 @@
 // The parts of a push: its tests, its two bits, the search where there is no lock, and its frames.
 ghost use mathlib.Core.Path.{_≡_};
-ghost use mathlib.Core.Bool.{true, false, _||_};
+ghost use mathlib.Core.Bool.{true, false};
 ghost use mathlib.Core.List.{List};
 ghost use Prim.Native.Nat.{ℕ, _+_, _-_, _/_, _%_, _^_, _<_, _≤_};
 ghost use lib.ListN.{length, set};
@@ -16,6 +16,8 @@ use bits::Refusal;
 use sync_frames::Drained;
 use sync_frames::drain;
 use sync_numbers::Numbers;
+use sync_numbers::bits_passed;
+use sync_numbers::dibit_taken;
 use sync_numbers::dropped;
 use sync_rings::three_frames;
 
@@ -54,24 +56,16 @@ pub fn soft_given(dibit: u8, first: u8, second: u8) -> Given
     }
 }
 
-fn or(a: bool, b: bool) -> bool
-    ensures { λ r. ⌜ r ≡ (a || b) ⌝ }
-{
-    if a {
-        return true;
-    }
-    b
-}
-
 // Counts the two bits of a push, soft or not, as pending.
 pub fn appended(c: Numbers, soft: bool) -> Numbers
-    requires { ⌜ Steady c ⌝ ∗ ⌜ c .pending ≤ 1151 ⌝ ∗ ⌜ c .taken < 2 ^ 40 ⌝ }
+    requires { ⌜ Steady c ⌝ ∗ ⌜ c .pending ≤ 1151 ⌝ ∗ ⌜ c .figures .taken < 2 ^ 40 ⌝ }
     ensures { λ r. ⌜ r ≡ appendedTo c soft ⌝ }
 {
     let mut d = c;
     d.pending = c.pending + 2;
-    d.taken = c.taken + 1;
-    d.soft = or(c.soft, soft);
+    let figures = c.figures;
+    let counted = dibit_taken(figures, soft);
+    d.figures = counted;
     d
 }
 
@@ -104,22 +98,19 @@ fn tries_of(pending: usize) -> usize
 
 // Searches where there is no lock: passes the bits up to the first place where three frames show themselves.
 fn search(bits: &[u8; 1155], c: Numbers) -> Numbers
-    requires { ⌜ Bits (now bits) ⌝ ∗ ⌜ Sound c ⌝ ∗ ⌜ Low c ⌝ ∗ ⌜ (c .locked ≡ true → c .failures ≤ 2) ⌝ }
+    requires { ⌜ Bits (now bits) ⌝ ∗ ⌜ Sound c ⌝ ∗ ⌜ Low c ⌝ ∗ ⌜ (c .figures .locked ≡ true → c .figures .failures ≤ 2) ⌝ }
     ensures { λ r. ⌜ Searched (now (bits .entry)) c r ⌝ }
 {
-    if c.locked {
+    if c.figures.locked {
         return c;
     }
     let base = c.first + c.restorable;
     let tries = tries_of(c.pending);
     let pos = find(bits, base, tries);
     let mut d = dropped(c, pos);
-    d.clock = c.clock + pos as u64;
-    if pos < tries {
-        d.locked = true;
-        d.failures = 0;
-        return d;
-    }
+    let figures = c.figures;
+    let counted = bits_passed(figures, pos as u64, pos < tries);
+    d.figures = counted;
     d
 }
 
@@ -152,7 +143,7 @@ pub(crate) fn brought(
     k: Numbers,
     x: Given,
 ) -> Numbers
-    requires { ⌜ Steady k ⌝ ∗ ⌜ (k .pending ≤ 1151) × (k .taken < 2 ^ 40) ⌝ ∗ ⌜ Rings (now bits) (now reliabilities) ⌝ ∗ ⌜ x .dibit < 4 ⌝ }
+    requires { ⌜ Steady k ⌝ ∗ ⌜ (k .pending ≤ 1151) × (k .figures .taken < 2 ^ 40) ⌝ ∗ ⌜ Rings (now bits) (now reliabilities) ⌝ ∗ ⌜ x .dibit < 4 ⌝ }
     ensures { λ r. ⌜ Brought (now (bits .entry)) (now (reliabilities .entry)) (now (bits .exit)) (now (reliabilities .exit)) k (inputOf x) r ⌝ }
 {
     let end = k.first + (k.restorable + k.pending);
@@ -191,7 +182,7 @@ pub fn made(answer: Push) -> usize
 pub fn enough(k: Numbers) -> bool
     ensures { λ r. ⌜ (r ≡ false → Waiting k) ⌝ }
 {
-    if k.locked {
+    if k.figures.locked {
         return 384 <= k.pending;
     }
     1152 <= k.pending
@@ -211,7 +202,7 @@ fn half_left(most: usize, pending: usize) -> usize
 pub fn quiet_of(k: Numbers) -> usize
     ensures { λ r. ⌜ ((bits reliabilities : List ℕ) → r ≡ quiet (viewOf bits reliabilities k)) ⌝ }
 {
-    if k.locked {
+    if k.figures.locked {
         return half_left(383, k.pending);
     }
     half_left(1151, k.pending)

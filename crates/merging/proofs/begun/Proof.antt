@@ -31,7 +31,7 @@ returns c =
         balance = omega (arith, none-used (c .empty .result .taken) (viewOf (m .new3 .result) .pending) shelved (ap length none));
       };
       told = omega (arith, none-yet _ (first .new .ensures .1), none-yet _ (second .new2 .ensures .1));
-      idle = ap (λ (v : View). releaseOf (At (first .new .result .numbers .clock)) (At (second .new2 .result .numbers .clock)) false v .answer) (m .new3 .ensures .0);
+      idle = ap (λ (v : View). releaseOf (At (first .new .result .numbers .figures .clock)) (At (second .new2 .result .numbers .figures .clock)) false v .answer) (m .new3 .ensures .0);
     }
 
 pub begun-spec : {M : Type 1} → statement M

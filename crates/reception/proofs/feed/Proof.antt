@@ -35,7 +35,7 @@ returns c =
     let g = start .pre .0 in
     let fed = call .feed-packed .result in
     let promised = call .feed-packed .ensures in
-    let more : view (fed .pushed .next) .frames ≡ view (r .sync) .frames + fed .pushed .count
+    let more : view (fed .pushed .next) .figures .frames ≡ view (r .sync) .figures .frames + fed .pushed .count
     = fed-frames _ _ (view (r .sync)) (reached-by (g .sent)) (view (fed .pushed .next)) (fed .pushed .count) (promised .next) (promised .many) in (
       record {
         size = g .size;

@@ -21,7 +21,7 @@ held xs f o l k f′ n e d = ring-mod xs f′ (f + (o + k - 2)) n e ∙ ap (ring
 
 -- the model by the three parts that a drop changes
 like : State → List ℕ → List ℕ → ℕ → State
-like m h r o = record { held = h; reliabilities = r; restorable = o; taken = m .taken; clock = m .clock; later = m .later; earlier = m .earlier; frames = m .frames; synchronised = m .synchronised; failures = m .failures; locked = m .locked; soft = m .soft }
+like m h r o = record { held = h; reliabilities = r; restorable = o; figures = m .figures }
 
 alike : (m : State) (h h′ r r′ : List ℕ) (o o′ : ℕ) → h ≡ h′ → r ≡ r′ → o ≡ o′ → like m h r o ≡ like m h′ r′ o′
 alike m h h′ r r′ o o′ p q s = cc

@@ -14,7 +14,7 @@ use Rattle.sync_numbers.proofs.Pendings.{pending-is}
 use Rattle.sync_steps.proofs.pushes.quiet_of.Statement.{statement}
 use Rattle.sync_steps.proofs.pushes.quiet_of.Tie as tie
 
-is-quiet : (bits reliabilities : List ℕ) (k : Numbers) (b : Bool) (r : ℕ) → k .locked ≡ b → r ≡ (cond b 383 1151 - k .pending) / 2 → r ≡ quiet (viewOf bits reliabilities k)
+is-quiet : (bits reliabilities : List ℕ) (k : Numbers) (b : Bool) (r : ℕ) → k .figures .locked ≡ b → r ≡ (cond b 383 1151 - k .pending) / 2 → r ≡ quiet (viewOf bits reliabilities k)
 unfolding quiet
 is-quiet bits reliabilities k b r e h =
     h ∙ ap (λ (n : ℕ). (cond b 383 1151 - n) / 2) (sym (pending-is bits reliabilities k))

@@ -22,7 +22,7 @@ returns c =
     let net : kept w64 (n .net-slip .result) ≡ netSlip m = back (n .net-slip .result) (record { sfits = n .net-slip .ok }) ∙ n .net-slip .ensures in
     c .slips-end-line .ensures
     ∙ ap₂ (λ (a b : ℕ). lineOf (slipsEndText a b (kept w64 (n .net-slip .result)))) (f .frames .ensures) (s .slips .ensures)
-    ∙ ap (λ (z : ℤ). lineOf (slipsEndText (m .frames) (slips m) z)) net
+    ∙ ap (λ (z : ℤ). lineOf (slipsEndText (m .figures .frames) (slips m) z)) net
 
 pub slips-end-spec : {M : Type 1} → statement M
 slips-end-spec =

@@ -1,12 +1,12 @@
--- `sync_numbers::numbers::beyond` meets its contract.
+-- `sync_numbers::figures::beyond` meets its contract.
 -- Assumes nothing.
 use mathlib.Core.Path.{_≡_, refl, sym, ap, _∙_}
 use mathlib.Core.Bool.{true, false}
 use native.Mathlib.Omega.{arith}
 use borrow.Author.Tests.{lt-ltb, le-ltb}
 use Rattle.bits.proofs.Tests.{cond-yes, cond-no}
-use Rattle.sync_numbers.proofs.numbers.beyond.Statement.{statement}
-use Rattle.sync_numbers.proofs.numbers.beyond.Tie as tie
+use Rattle.sync_numbers.proofs.figures.beyond.Statement.{statement}
+use Rattle.sync_numbers.proofs.figures.beyond.Tie as tie
 
 returns : tie.Need-returns
 returns c = (cond-yes _ true _ _ (sym (lt-ltb _ _ (c .if1 .taken))) refl, omega arith)
