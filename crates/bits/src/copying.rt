@@ -1,4 +1,4 @@
-// Bytes copied from lent memory to lent memory.
+// Copies bytes from lent memory to lent memory.
 ghost use mathlib.Core.Path.{_≡_};
 ghost use lib.ListN.{length};
 

@@ -48,7 +48,7 @@ pub enum Writing {
     Refused(Refusal),
 }
 
-// The number that the documents give a refusal.
+// Gives the number by which the documents name a refusal.
 pub fn number_of(refusal: Refusal) -> u8
     ensures { λ r. ⌜ r ≡ numberOf refusal ⌝ }
 {

@@ -5,34 +5,35 @@ ghost use lib.Count.{ones};
 ghost use lib.IntN.{natAbs};
 ghost use Rattle.bits.specs.BigEndian.{bigEndian};
 
-// A byte as an index. A cast in place would leave each caller the fact that it fits.
+// Gives a byte as an index, with the fact that it is below 256: a cast in place would leave that to each caller.
 pub fn wide(x: u8) -> usize
     ensures { λ r. ⌜ (r ≡ x) × (r < 256) ⌝ }
 {
     x as usize
 }
 
-// A byte as a number of 16 bits, and of 32.
+// Gives a byte as a number of 16 bits, with the fact that it is below 256.
 pub fn wide16(x: u8) -> u16
     ensures { λ r. ⌜ (r ≡ x) × (r < 256) ⌝ }
 {
     x as u16
 }
 
+// Gives a byte as a number of 32 bits, with the fact that it is below 256.
 pub fn wide32(x: u8) -> u32
     ensures { λ r. ⌜ (r ≡ x) × (r < 256) ⌝ }
 {
     x as u32
 }
 
-// A byte, with the fact that it is one: an array's element comes without.
+// Hands a byte back with the fact that it is below 256: an array's element comes without it.
 pub fn byte(x: u8) -> u8
     ensures { λ r. ⌜ (r ≡ x) × (r < 256) ⌝ }
 {
     x
 }
 
-// x in eight bytes, high byte first.
+// Gives a number as eight bytes, high byte first.
 pub fn bytes_of(x: u64) -> [u8; 8]
     ensures { λ r. ⌜ r ≡ bigEndian 8 x ⌝ }
 {
@@ -55,7 +56,7 @@ pub fn bytes_of(x: u64) -> [u8; 8]
     ]
 }
 
-// A number without its sign. The way round by -1 - n fits even where -n does not.
+// Gives a number without its sign. The way round by -1 - n fits even for the lowest number, where -n does not.
 pub fn amount(n: i64) -> u64
     ensures { λ r. ⌜ r ≡ natAbs n ⌝ }
 {
@@ -66,14 +67,14 @@ pub fn amount(n: i64) -> u64
     n as u64
 }
 
-// The lesser of two numbers.
+// Gives the lesser of two numbers.
 pub fn lesser(x: u32, y: u32) -> u32
     ensures { λ r. ⌜ r ≡ min x y ⌝ }
 {
     if y < x { y } else { x }
 }
 
-// The parity of a number's ones.
+// Gives 1 where a number has an odd count of ones, else 0.
 pub fn parity(v: u32) -> u8
     ensures { λ r. ⌜ (r ≡ ones v % 2) × (r < 2) ⌝ }
 {

@@ -1,4 +1,5 @@
-// Word and envelope. A word byte is one envelope byte with its bits in the other order, xored with a byte of the sequence.
+// Takes a word out of an envelope, and makes the envelope of a word. A word byte is one envelope byte with its bits in the other order, xored with a byte
+// of the sequence.
 ghost use mathlib.Core.Path.{_≡_};
 ghost use Prim.Native.Nat.{_+_, _-_, _*_, _/_, _%_, _<_};
 ghost use lib.ListN.{length, getD};
@@ -10,7 +11,7 @@ ghost use Rattle.coding_rules.specs.Sequence.{keyByte, turnedByte};
 use bits::Refusal;
 use bits::Writing;
 
-// The sequence, eight bits to a byte, lowest first.
+// The sequence that scrambles: word byte k is xored with entry k, which holds the sequence's bits from 8 k on, the first lowest.
 const KEYS: [u8; 42] = [
     255,
     193,
@@ -56,14 +57,14 @@ const KEYS: [u8; 42] = [
     241,
 ];
 
-// The sequence as a value: a constant is stored anew at each use.
+// Gives the sequence as a value, to be made once a call: a constant is stored anew at each use.
 fn keys() -> [u8; 42]
     ensures { λ r. ⌜ r ≡ tab 42 keyByte ⌝ }
 {
     KEYS
 }
 
-// A byte with its bits in the other order.
+// Turns a byte round: swaps its halves, then pairs of bits, then bits.
 fn turned(x: u8) -> u8
     ensures { λ r. ⌜ r ≡ turnedByte x ⌝ }
 {
@@ -72,7 +73,7 @@ fn turned(x: u8) -> u8
     ((b & 0x55) << 1) | ((b >> 1) & 0x55)
 }
 
-// All bytes of an envelope turned: a loop of its own, that the compiler does sixteen at a time.
+// Turns each byte of an envelope round, those of the markers too: a loop without exceptions, which the compiler does sixteen bytes at a time.
 fn all_turned(envelope: &[u8]) -> [u8; 48]
     requires { ⌜ length (now envelope) ≡ 48 ⌝ }
     ensures { λ r. ⌜ r ≡ tab 48 (λ k. turnedByte (getD (now (envelope .entry)) k 0)) ⌝ }
@@ -84,6 +85,7 @@ fn all_turned(envelope: &[u8]) -> [u8; 48]
     out
 }
 
+// Writes the word in an envelope: 14 bytes from each segment of 16, behind the two of its marker.
 fn write_word(envelope: &[u8], word: &mut [u8])
     requires { ⌜ length (now envelope) ≡ 48 ⌝ ∗ ⌜ length (now word) ≡ 42 ⌝ }
     ensures { λ r. ⌜ now (word .exit) ≡ descrambled (now (envelope .entry)) ⌝ }
@@ -95,7 +97,7 @@ fn write_word(envelope: &[u8], word: &mut [u8])
     }
 }
 
-// The word in an envelope, into lent memory.
+// Writes the word in an envelope into lent memory. Refuses (5) an envelope that is not 48 bytes or a word that is not 42, and then writes nothing.
 pub fn descramble(envelope: &[u8], word: &mut [u8]) -> Writing
     ensures { λ r. ⌜ r ≡ sizeAnswer (now (envelope .entry)) (now (word .entry)) ⌝ }
     ensures leaves { λ r. ⌜ now (word .exit) ≡ afterDescramble (now (envelope .entry)) (now (word .entry)) ⌝ }
@@ -110,7 +112,7 @@ pub fn descramble(envelope: &[u8], word: &mut [u8]) -> Writing
     Writing::Written
 }
 
-// Byte i of the three markers' six, high byte first.
+// Gives byte i of the six that the three markers have, high byte first.
 fn marker_byte(markers: &[u16; 3], i: usize) -> u8
     requires { ⌜ now markers ≡ theMarkers ⌝ ∗ ⌜ i < 6 ⌝ }
     ensures { λ r. ⌜ r ≡ number 8 (λ j. digit (marker (i / 2)) (8 * (1 - i % 2) + j)) ⌝ }
@@ -122,7 +124,7 @@ fn marker_byte(markers: &[u16; 3], i: usize) -> u8
     (marker % 256) as u8
 }
 
-// Byte k of the envelope.
+// Gives byte k of the envelope: of the 16 bytes of a segment two are its marker's, the others the word's, scrambled.
 fn envelope_byte(word: &[u8], keys: &[u8; 42], markers: &[u16; 3], k: usize) -> u8
     requires { ⌜ length (now word) ≡ 42 ⌝ ∗ ⌜ now keys ≡ tab 42 keyByte ⌝ ∗ ⌜ now markers ≡ theMarkers ⌝ ∗ ⌜ k < 48 ⌝ }
     ensures { λ r. ⌜ r ≡ envelopeByte (now (word .entry)) k ⌝ }
@@ -136,6 +138,7 @@ fn envelope_byte(word: &[u8], keys: &[u8; 42], markers: &[u16; 3], k: usize) -> 
     turned(word[i] ^ keys[i])
 }
 
+// Writes the envelope that holds a word, byte by byte.
 fn write_envelope(word: &[u8], envelope: &mut [u8])
     requires { ⌜ length (now word) ≡ 42 ⌝ ∗ ⌜ length (now envelope) ≡ 48 ⌝ }
     ensures { λ r. ⌜ now (envelope .exit) ≡ scrambled (now (word .entry)) ⌝ }
@@ -147,7 +150,7 @@ fn write_envelope(word: &[u8], envelope: &mut [u8])
     }
 }
 
-// The envelope that holds a word, into lent memory.
+// Writes the envelope that holds a word into lent memory. Refuses (5) an envelope that is not 48 bytes or a word that is not 42, and then writes nothing.
 pub fn scramble(word: &[u8], envelope: &mut [u8]) -> Writing
     ensures { λ r. ⌜ r ≡ sizeAnswer (now (envelope .entry)) (now (word .entry)) ⌝ }
     ensures leaves { λ r. ⌜ now (envelope .exit) ≡ afterScramble (now (word .entry)) (now (envelope .entry)) ⌝ }

@@ -12,24 +12,28 @@ use voice_rules::Decoded;
 
 // ---- demand 1
 
+// Says yes exactly where document 01's rules admit the table.
 fn admitted(table: &[u8]) -> bool
     ensures { λ r. ⌜ (r ≡ true → Admitted (now (table .entry))) × (Admitted (now (table .entry)) → r ≡ true) ⌝ }
 {
     protected::admitted(table)
 }
 
+// Tests 5, the sizes of payload and envelope, then 4, the table; a refused call leaves the envelope as it was.
 fn encode(table: &[u8], payload: &[u8], alternate: bool, envelope: &mut [u8]) -> Writing
     ensures { λ r. ⌜ EncodingRefuses (now (table .entry)) (now (payload .entry)) (now (envelope .entry)) r (now (envelope .exit)) ⌝ }
 {
     voice_frame::encode(table, payload, alternate, envelope)
 }
 
+// Tests 5, the envelope's size, then 4, the table, then 6, whether a hard stage accepts; a refused call gives a payload of zeros.
 fn decode(table: &[u8], envelope: &[u8]) -> Decoded
     ensures { λ r. ⌜ DecodingRefuses (now (table .entry)) (now (envelope .entry)) (decodedWord (now (table .entry))) r ⌝ }
 {
     voice_frame::decode(table, envelope)
 }
 
+// Tests 5, the envelope's size, then 4, the table, then 6, whether a hard stage or soft decoding accepts; a refused call gives a payload of zeros.
 fn decode_soft(table: &[u8], envelope: &[u8], reliabilities: &[u8]) -> Decoded
     ensures { λ r. ⌜ DecodingRefuses (now (table .entry)) (now (envelope .entry)) (λ word. softlyDecodedWord (now (table .entry)) word (now (reliabilities .entry))) r ⌝ }
 {

@@ -20,14 +20,14 @@ pub fn demand_two()
     voice_rules::injective();
 }
 
-// Demand 3: silence before a lock, exact frames after it, and their offsets, over any history of calls.
+// Demand 3: no frame goes out before a lock, those after it are exact and have the offsets that are asked for, over any history of calls.
 pub fn demand_three()
     ensures { λ _. ⌜ Demand3 ⌝ }
 {
     sync_call_rules::demand_three_of_calls();
 }
 
-// Document 01's sentences on the synchroniser, after any history of calls.
+// Document 01's sentences on the synchroniser hold after any history of calls.
 pub fn synchroniser_statements()
     ensures { λ _. ⌜ Statements ⌝ }
 {
@@ -37,7 +37,7 @@ pub fn synchroniser_statements()
     sync_call_rules::moves_of_calls();
 }
 
-// Document 01's starred examples, together.
+// Document 01's starred examples hold, all in one list.
 pub fn starred_examples()
     ensures { λ _. ⌜ All Holds starred ⌝ }
 {}

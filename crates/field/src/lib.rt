@@ -11,25 +11,28 @@ mod tables;
 use tables::LOGS;
 use tables::POWERS;
 
-// The tables that a caller lends to the calls below. The layers above pass them on by these names and know nothing of their length, so that a `field` with
-// smaller ones can stand in for this crate.
+// The powers of 2, one of the two tables that a caller lends to the calls below. The layers above pass them on by these names and know nothing of their length,
+// so that a `field` with smaller ones can stand in for this crate.
 pub type PowerTable = [u8; 510];
 
+// The logarithm of each byte to the base 2; entry 0 is never used.
 pub type LogTable = [u8; 256];
 
+// Gives the table of powers, for a caller to lend.
 pub fn powers() -> PowerTable
     ensures { λ r. ⌜ Powers r ⌝ }
 {
     POWERS
 }
 
+// Gives the table of logarithms, for a caller to lend.
 pub fn logs() -> LogTable
     ensures { λ r. ⌜ Logs r ⌝ }
 {
     LOGS
 }
 
-// The logarithm of a byte other than 0.
+// Looks up the logarithm of a byte other than 0; for 0, which has none, the answer means nothing.
 fn log(logs: &LogTable, a: u8) -> usize
     requires { ⌜ Logs (now logs) ⌝ }
     ensures { λ r. ⌜ Log a r ⌝ }
@@ -37,7 +40,7 @@ fn log(logs: &LogTable, a: u8) -> usize
     bits::wide(logs[bits::wide(a)])
 }
 
-// The i-th power of 2, by the lent table.
+// Gives the i-th power of 2 by the lent table, for any i: the powers come again after 255.
 pub fn power_by(powers: &PowerTable, i: usize) -> u8
     requires { ⌜ Powers (now powers) ⌝ }
     ensures { λ r. ⌜ r ≡ power i ⌝ }
@@ -45,7 +48,7 @@ pub fn power_by(powers: &PowerTable, i: usize) -> u8
     powers[i % 255]
 }
 
-// a times b, by the lent tables.
+// Gives a times b by the lent tables: the power whose exponent is the sum of the logarithms, and 0 where a or b is 0.
 pub fn product_by(powers: &PowerTable, logs: &LogTable, a: u8, b: u8) -> u8
     requires { ⌜ Powers (now powers) ⌝ ∗ ⌜ Logs (now logs) ⌝ }
     ensures { λ r. ⌜ r ≡ product a b ⌝ }
@@ -59,7 +62,7 @@ pub fn product_by(powers: &PowerTable, logs: &LogTable, a: u8, b: u8) -> u8
     powers[log(logs, a) + log(logs, b)]
 }
 
-// a times 2^e, by the lent tables: a logarithm and a test less than a product.
+// Gives a times 2^e by the lent tables, for e up to 255: a logarithm and a test less than a product.
 pub fn times_power_by(powers: &PowerTable, logs: &LogTable, a: u8, e: usize) -> u8
     requires { ⌜ Powers (now powers) ⌝ ∗ ⌜ Logs (now logs) ⌝ ∗ ⌜ e ≤ 255 ⌝ }
     ensures { λ r. ⌜ r ≡ product a (power e) ⌝ }
@@ -70,7 +73,7 @@ pub fn times_power_by(powers: &PowerTable, logs: &LogTable, a: u8, e: usize) -> 
     powers[log(logs, a) + e]
 }
 
-// a over b, and 0 where b is 0, by the lent tables.
+// Gives a over b by the lent tables, and 0 where b is 0. The 255 changes no power and keeps the difference of the logarithms above 0.
 pub fn quotient_by(powers: &PowerTable, logs: &LogTable, a: u8, b: u8) -> u8
     requires { ⌜ Powers (now powers) ⌝ ∗ ⌜ Logs (now logs) ⌝ }
     ensures { λ r. ⌜ r ≡ quotient a b ⌝ }
@@ -84,21 +87,21 @@ pub fn quotient_by(powers: &PowerTable, logs: &LogTable, a: u8, b: u8) -> u8
     powers[log(logs, a) + 255 - log(logs, b)]
 }
 
-// The i-th power of 2.
+// Gives the i-th power of 2.
 pub fn power(i: usize) -> u8
     ensures { λ r. ⌜ r ≡ power i ⌝ }
 {
     power_by(&powers(), i)
 }
 
-// a times b.
+// Gives a times b.
 pub fn product(a: u8, b: u8) -> u8
     ensures { λ r. ⌜ r ≡ product a b ⌝ }
 {
     product_by(&powers(), &logs(), a, b)
 }
 
-// a over b, and 0 where b is 0.
+// Gives a over b, and 0 where b is 0.
 pub fn quotient(a: u8, b: u8) -> u8
     ensures { λ r. ⌜ r ≡ quotient a b ⌝ }
 {

@@ -1,5 +1,5 @@
 // The powers of 2 in GF(256) over 0x11d, and the logarithms of the bytes to the base 2.
-// Their rule is computed from the definition and compared entry by entry: a wrong entry is refused (proofs/TableRules.antt).
+// Their rule is computed from the definition and compared entry by entry: a wrong entry is refused (crate `field_rules`, proofs/TableRules.antt).
 
 // Entry i is 2^i. A sum of two logarithms is below 510, so that a product needs no remainder by 255.
 pub(crate) const POWERS: [u8; 510] = [

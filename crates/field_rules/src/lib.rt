@@ -2,7 +2,7 @@
 // There is no code here: the theorem is the `ensures` of an empty function, so that it cannot vanish.
 ghost use Rattle.field_rules.specs.Statements.{FieldLaws};
 
-// The definitions are the textbook's field: one statement, in specs/Statements.antt.
+// The definitions are the textbook's field: specs/Statements.antt says so in one statement.
 pub fn field_laws()
     ensures { λ _. ⌜ FieldLaws ⌝ }
 {}

@@ -1,4 +1,4 @@
-// What the hard decoder says of a frame, as the journal and the programs need it (specs/Outcomes.antt).
+// Says of a frame what the hard decoder answers, as the journal and the programs need it (specs/Outcomes.antt).
 ghost use mathlib.Core.Path.{_≡_};
 ghost use Rattle.voice_rules.specs.Calls.{decodeAnswer};
 ghost use Rattle.frame_outcomes.specs.Outcomes.{triedBy};
@@ -7,7 +7,7 @@ use frame_records::byte_of;
 use journal_rules::Outcome;
 use voice_rules::Decoding;
 
-// Keeps of the decoder's answer what a record says of it.
+// Keeps of the decoder's answer what a record says of it; every refusal, whatever its number, is the outcome refused.
 fn from_decoding(decoding: Decoding) -> Tried
     ensures { λ r. ⌜ r ≡ triedBy decoding ⌝ }
 {
@@ -23,7 +23,7 @@ fn from_decoding(decoding: Decoding) -> Tried
     }
 }
 
-// Asks the hard decoder about an envelope.
+// Asks the hard decoder about an envelope, and gives what a record says of its answer.
 pub fn try_frame(table: &[u8], envelope: &[u8]) -> Tried
     ensures { λ r. ⌜ r ≡ triedBy (decodeAnswer (now (table .entry)) (now (envelope .entry)) .decoding) ⌝ }
 {

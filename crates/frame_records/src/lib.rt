@@ -1,4 +1,4 @@
-// A frame on its way into a journal: its record, with that of the gap before it, on standard output. A refusal goes to standard error, by its number.
+// Writes a frame's record, with that of the gap before it, to standard output; a refusal goes to standard error, by its number.
 // How many records a frame makes is defined in specs/Tries.antt; what the decoder says of a frame is found in the crate frame_outcomes.
 ghost use mathlib.Core.Path.{_≡_};
 ghost use Prim.Native.Nat.{_≤_, min};
@@ -19,7 +19,7 @@ pub struct Tried {
     pub corrected: u8,
 }
 
-// A frame that no decoder has seen.
+// Gives what a record says of a frame that no decoder has seen.
 pub fn untried() -> Tried
     ensures { λ r. ⌜ r ≡ notTried ⌝ }
 {
@@ -36,7 +36,7 @@ pub fn byte_of(n: u32) -> u8
     if n > 255 { 255 } else { n as u8 }
 }
 
-// An entry's record on standard output, if the journal takes it; how many records that is.
+// Writes an entry's record to standard output and gives 1; where the journal refuses the entry, it says so on standard error and gives 0.
 fn write_entry(entry: Entry, envelope: &[u8]) -> u64
     ensures { λ r. ⌜ r ≡ recordsOf entry (now (envelope .entry)) ⌝ }
 {
@@ -54,6 +54,7 @@ fn write_entry(entry: Entry, envelope: &[u8]) -> u64
     }
 }
 
+// Writes the record of the gap before a frame at the offset `next`, if there is one, and gives how many records that is.
 fn write_gap(earlier: Earlier, next: u64) -> u64
     ensures { λ r. ⌜ r ≡ gapRecords (gapTo earlier next) ⌝ }
 {
@@ -64,7 +65,7 @@ fn write_gap(earlier: Earlier, next: u64) -> u64
     }
 }
 
-// A frame, with the gap before it; how many records that is.
+// Writes a frame's record behind that of the gap before it, and gives how many records that is: at most two.
 pub fn write_frame(earlier: Earlier, head: Head, tried: Tried, envelope: &[u8]) -> u64
     ensures { λ r. ⌜ r ≡ frameRecords earlier head tried (now (envelope .entry)) ⌝ }
     ensures few { λ r. ⌜ r ≤ 2 ⌝ }

@@ -13,7 +13,7 @@ pub use journal_rules::Outcome;
 pub use journal_rules::Reading;
 pub use journal_writing::write;
 
-// Gives the gap between a frame and the one before it.
+// Gives the gap between a frame at `next` and the one before it at `earlier`: none where these lie at most 384 bits apart.
 fn gap_after(earlier: u64, next: u64) -> Between
     ensures { λ r. ⌜ r ≡ gapTo (Earlier.At earlier) next ⌝ }
 {

@@ -15,7 +15,7 @@ use journal_rules::Outcome;
 use journal_rules::Reading;
 use journal_writing::may_correct;
 
-// Gives the number of the eight bytes from `at` on, high byte first.
+// Reads the number in the eight bytes from `at` on, high byte first.
 fn number_at(s: &[u8], at: usize) -> u64
     requires { ⌜ at + 8 ≤ length (now s) ⌝ }
     ensures { λ r. ⌜ r ≡ valueOf (take 8 (drop at (now (s .entry)))) ⌝ }
@@ -43,7 +43,7 @@ fn all_zero(s: &[u8]) -> bool
     true
 }
 
-// Gives the outcome of a byte of at most 2.
+// Gives the outcome that a record's byte names; the caller has tested that it is at most 2.
 fn outcome_of(n: u8) -> Outcome
     ensures { λ r. ⌜ r ≡ outcomeAt n ⌝ }
 {
@@ -56,7 +56,7 @@ fn outcome_of(n: u8) -> Outcome
     Outcome::Refused
 }
 
-// Reads the record of a gap.
+// Reads the record of a gap, or refuses it (12): a byte that must be zero is not, the length is 0, or the gap's end lies above 2^42.
 fn read_gap(record: &[u8]) -> Reading
     requires { ⌜ length (now «record») ≡ 64 ⌝ }
     ensures { λ r. ⌜ r ≡ readGap (now («record» .entry)) ⌝ }
@@ -84,7 +84,7 @@ fn read_gap(record: &[u8]) -> Reading
     })
 }
 
-// Reads the record of a frame.
+// Reads the record of a frame, or refuses it (12): a figure lies out of its range, a byte that must be zero is not, or the frame's end lies above 2^42.
 fn read_frame(record: &[u8]) -> Reading
     requires { ⌜ length (now «record») ≡ 64 ⌝ }
     ensures { λ r. ⌜ r ≡ readFrame (now («record» .entry)) ⌝ }

@@ -3,7 +3,7 @@
 ghost use Rattle.journal_rules.specs.Statements.{OneMeaning, Refusing, Unbroken};
 use bits::Refusal;
 
-// What became of a frame's envelope at the decoder.
+// What became of a frame's envelope at the decoder: it was not tried, was accepted, or was refused.
 pub enum Outcome {
     Untried,
     Accepted,
@@ -18,17 +18,19 @@ pub struct Figures {
     pub corrected: u8,
 }
 
+// What an entry tells of: a frame with its figures, or a gap with its length in bits.
 pub enum Body {
     Frame(Figures),
     Gap(u64),
 }
 
+// What a record means: the offset at which it starts, in bits of the clock, and what lies there. A frame's envelope stays beside it.
 pub struct Entry {
     pub offset: u64,
     pub body: Body,
 }
 
-// What a record says.
+// What reading a record answers: its entry, or the refusal of a record that breaks a rule.
 pub enum Reading {
     Holds(Entry),
     Refused(Refusal),
@@ -51,7 +53,7 @@ pub fn one_meaning()
     ensures { λ _. ⌜ OneMeaning ⌝ }
 {}
 
-// What is refused, by which number, and that nothing is written then.
+// An envelope of a wrong size is refused by 5, what breaks a rule by 12, and nothing is written then.
 pub fn refusing()
     ensures { λ _. ⌜ Refusing ⌝ }
 {}

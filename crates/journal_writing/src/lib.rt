@@ -15,7 +15,7 @@ use journal_rules::Entry;
 use journal_rules::Figures;
 use journal_rules::Outcome;
 
-// Gives an outcome's byte.
+// Gives the byte by which a record names an outcome.
 fn outcome_byte(o: Outcome) -> u8
     ensures { λ r. ⌜ r ≡ outcomeNumber o ⌝ }
 {
@@ -33,7 +33,7 @@ fn bit_byte(b: bool) -> u8
     if b { 1 } else { 0 }
 }
 
-// Tells whether n corrected bits go with the outcome.
+// Tells whether n corrected bits go with the outcome: up to 32 with an accepted one, none with any other.
 pub fn may_correct(o: Outcome, n: u8) -> bool
     ensures { λ r. ⌜ r ≡ mayCorrect o n ⌝ }
 {
@@ -90,7 +90,7 @@ fn fill_frame(offset: u64, f: Figures, envelope: &[u8], record: &mut [u8])
     copy_at(record, 16, envelope);
 }
 
-// Tests a gap, and writes its record.
+// Tests a gap and writes its record, or refuses it (12): the room is not 64 bytes, the gap is empty, or its end lies above 2^42.
 fn write_gap(offset: u64, n: u64, record: &mut [u8]) -> Writing
     ensures { λ r. ⌜ Wrote 64 (entryAt offset (Body.Gap n)) [] (now («record» .entry)) r (now («record» .exit)) ⌝ }
 {
@@ -110,7 +110,7 @@ fn write_gap(offset: u64, n: u64, record: &mut [u8]) -> Writing
     Writing::Written
 }
 
-// Tests a frame, and writes its record.
+// Tests a frame and writes its record, or refuses it: 5 for an envelope that is not 48 bytes, 12 for any other rule.
 fn write_frame(offset: u64, f: Figures, envelope: &[u8], record: &mut [u8]) -> Writing
     ensures { λ r. ⌜ Wrote 64 (entryAt offset (Body.Frame f)) (now (envelope .entry)) (now («record» .entry)) r (now («record» .exit)) ⌝ }
 {

@@ -1,4 +1,4 @@
-// What `listing` prints, and the line of what is refused.
+// Makes what `listing` prints, and the line of what is refused.
 ghost use mathlib.Core.Path.{_≡_};
 ghost use Prim.Native.Nat.{_≤_};
 ghost use Rattle.texts_rules.specs.Text.{lineOf};
@@ -9,13 +9,14 @@ use texts::empty;
 use texts::with_number;
 use texts::with_word;
 
+// Gives a yes as 1, a no as 0.
 fn bit_number(b: bool) -> u64
     ensures { λ r. ⌜ r ≡ bitOf b ⌝ }
 {
     if b { 1 } else { 0 }
 }
 
-// A frame by its offset, whether it matched, and its errors, with the line not yet ended.
+// Puts a frame's offset, whether it matched, and its errors into a line, which is not ended yet: `show` puts the outcome behind them.
 pub fn frame_words(offset: u64, matched: bool, errors: u64) -> Line
     ensures size { λ r. ⌜ r .size ≤ 68 ⌝ }
     ensures text { λ r. ⌜ r ≡ lineOf (frameWords offset matched errors) ⌝ }
@@ -27,6 +28,7 @@ pub fn frame_words(offset: u64, matched: bool, errors: u64) -> Line
     with_number(l3, errors)
 }
 
+// Makes the line of a frame: `frame OFFSET MATCHED ERRORS`.
 pub fn frame_line(offset: u64, matched: bool, errors: u64) -> Line
     ensures { λ r. ⌜ r ≡ lineOf (frameText offset matched errors) ⌝ }
 {
@@ -34,6 +36,7 @@ pub fn frame_line(offset: u64, matched: bool, errors: u64) -> Line
     with_word(words, b"\n")
 }
 
+// Makes the line of a gap: `gap OFFSET LENGTH`.
 pub fn gap_line(offset: u64, length: u64) -> Line
     ensures { λ r. ⌜ r ≡ lineOf (gapText offset «length») ⌝ }
 {
@@ -44,7 +47,7 @@ pub fn gap_line(offset: u64, length: u64) -> Line
     with_word(l3, b"\n")
 }
 
-// The last line's first two counts, with the line not yet ended.
+// Puts `end` and the last line's first two counts into a line, which is not ended yet: the third count may have a sign.
 pub(crate) fn end_words(a: u64, b: u64) -> Line
     ensures size { λ r. ⌜ r .size ≤ 45 ⌝ }
     ensures text { λ r. ⌜ r ≡ lineOf (endWords a b) ⌝ }
@@ -55,7 +58,7 @@ pub(crate) fn end_words(a: u64, b: u64) -> Line
     with_number(l2, b)
 }
 
-// The last line, with its three counts.
+// Makes the last line: `end` and three counts.
 pub fn end_line(a: u64, b: u64, c: u64) -> Line
     ensures { λ r. ⌜ r ≡ lineOf (endText a b c) ⌝ }
 {
@@ -64,7 +67,7 @@ pub fn end_line(a: u64, b: u64, c: u64) -> Line
     with_word(counts, b"\n")
 }
 
-// What is refused, by two numbers.
+// Makes the line of what is refused: `refused` and two numbers, the refusal's and the record's, or a frame's offset and the refusal's.
 pub fn refused_line(first: u64, second: u64) -> Line
     ensures { λ r. ⌜ r ≡ lineOf (refusedText first second) ⌝ }
 {

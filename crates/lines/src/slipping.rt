@@ -1,4 +1,4 @@
-// What `slips` prints.
+// Makes what `slips` prints.
 ghost use mathlib.Core.Path.{_≡_};
 ghost use Rattle.texts_rules.specs.Text.{lineOf};
 ghost use Rattle.lines_rules.specs.Slips.{hasMove, slipLine};
@@ -12,7 +12,7 @@ use texts::with_number;
 use texts::with_signed;
 use texts::with_word;
 
-// A frame's moves: of its front, its second and its third segment.
+// Makes the line of a frame's moves in bits, of its front, its second and its third segment: `slip OFFSET FRONT SECOND THIRD`.
 pub fn slip_line(offset: u64, front: i64, second: i64, third: i64) -> Line
     ensures { λ r. ⌜ r ≡ lineOf (slipText offset front second third) ⌝ }
 {
@@ -25,7 +25,7 @@ pub fn slip_line(offset: u64, front: i64, second: i64, third: i64) -> Line
     with_word(l5, b"\n")
 }
 
-// The last line: the frames, the slips and the net slip.
+// Makes the last line: `end FRAMES SLIPS NETSLIP`, the net slip in bits and with its sign.
 pub fn slips_end_line(frames: u64, slips: u64, net: i64) -> Line
     ensures { λ r. ⌜ r ≡ lineOf (slipsEndText frames slips net) ⌝ }
 {
@@ -34,13 +34,14 @@ pub fn slips_end_line(frames: u64, slips: u64, net: i64) -> Line
     with_word(counts, b"\n")
 }
 
+// Tells whether one of a frame's three moves is not zero.
 fn has_move(moves: Moves) -> bool
     ensures { λ r. ⌜ r ≡ hasMove moves ⌝ }
 {
     moves.front != 0 || moves.second != 0 || moves.third != 0
 }
 
-// The line of a frame with a move, or an empty line.
+// Makes the line of a frame with a move; for any other an empty line, which prints nothing.
 pub fn slip_of(head: Head) -> Line
     ensures { λ r. ⌜ r ≡ slipLine head ⌝ }
 {

@@ -1,4 +1,4 @@
-// What `speech` prints of a frame: its payload, or that it is refused.
+// Makes what `speech` prints of a frame: its payload, or that it is refused.
 ghost use mathlib.Core.Path.{_≡_};
 ghost use Rattle.bits.specs.Refusals.{numberOf};
 ghost use Rattle.texts_rules.specs.Text.{lineOf};
@@ -13,7 +13,7 @@ use texts::hex_of;
 use texts::with_number;
 use texts::with_word;
 
-// A frame's speech: its offset, its corrected bits, its payload.
+// Makes the line of a frame's speech: `speech OFFSET CORRECTED PAYLOAD`, the payload in 40 hexadecimal digits.
 pub fn speech_line(offset: u64, corrected: u64, payload: [u8; 20]) -> Line
     ensures { λ r. ⌜ r ≡ lineOf (speechText offset corrected payload) ⌝ }
 {
@@ -27,7 +27,7 @@ pub fn speech_line(offset: u64, corrected: u64, payload: [u8; 20]) -> Line
     with_word(l5, b"\n")
 }
 
-// A frame that is no speech: its offset, and the refusal by its number.
+// Makes the line of a frame that is no speech: `refused OFFSET NUMBER`, the refusal's number.
 pub fn refused_frame_line(offset: u64, refusal: Refusal) -> Line
     ensures { λ r. ⌜ r ≡ lineOf (refusedText offset (numberOf refusal)) ⌝ }
 {

@@ -1,4 +1,4 @@
-// What goes to standard error: a refusal by its number, and how many frames of two merged recordings are not in the journal.
+// Makes what goes to standard error: a refusal by its number, and how many frames of two merged recordings are not in the journal.
 ghost use mathlib.Core.Path.{_≡_};
 ghost use Rattle.bits.specs.Refusals.{numberOf};
 ghost use Rattle.texts_rules.specs.Text.{lineOf};
@@ -11,7 +11,7 @@ use texts::empty;
 use texts::with_number;
 use texts::with_word;
 
-// A refusal by its number.
+// Makes the line of a refusal: `refused NUMBER`.
 pub fn refusal_line(refusal: Refusal) -> Line
     ensures { λ r. ⌜ r ≡ lineOf (refusalText (numberOf refusal)) ⌝ }
 {
@@ -21,7 +21,7 @@ pub fn refusal_line(refusal: Refusal) -> Line
     with_word(l2, b"\n")
 }
 
-// How many frames came late, found their place taken, or were passed over.
+// Makes the line that says how many frames came late, found their place taken, or were passed over: `late N double N passed over N`.
 pub fn left_out_line(late: u64, double: u64, passed: u64) -> Line
     ensures { λ r. ⌜ r ≡ lineOf (leftOutText late double passed) ⌝ }
 {

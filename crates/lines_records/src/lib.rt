@@ -1,4 +1,4 @@
-// The lines of a journal's records, as `show` prints them, and of the gap before a frame.
+// Makes the lines of a journal's records, as `show` prints them, and of the gap before a frame.
 // What is shown is defined in crate `lines_rules`, whose types are named here too.
 ghost use mathlib.Core.Path.{_≡_};
 ghost use mathlib.Core.List.{List, _++_};
@@ -26,6 +26,7 @@ use texts::empty;
 use texts::with_number;
 use texts::with_word;
 
+// Puts `accepted` and the number of corrected bits behind a line's text.
 fn accepted_words(line: Line, corrected: u8) -> Line
     requires { ⌜ line .size ≤ 90 ⌝ }
     ensures size { λ r. ⌜ r .size ≤ line .size + 30 ⌝ }
@@ -35,7 +36,7 @@ fn accepted_words(line: Line, corrected: u8) -> Line
     with_number(word, wide(corrected) as u64)
 }
 
-// The line with a frame's outcome behind it.
+// Puts a frame's outcome behind a line's text: `untried`, `accepted` with the corrected bits, or `refused`.
 fn outcome_words(line: Line, outcome: Outcome, corrected: u8) -> Line
     requires { ⌜ line .size ≤ 90 ⌝ }
     ensures size { λ r. ⌜ r .size ≤ line .size + 30 ⌝ }
@@ -48,6 +49,7 @@ fn outcome_words(line: Line, outcome: Outcome, corrected: u8) -> Line
     }
 }
 
+// Makes the line of a frame's record: `frame OFFSET MATCHED ERRORS` and its outcome.
 fn figures_line(offset: u64, f: Figures) -> Line
     ensures { λ r. ⌜ r ≡ lineOf (figuresText offset f) ⌝ }
 {
@@ -57,6 +59,7 @@ fn figures_line(offset: u64, f: Figures) -> Line
     with_word(with_outcome, b"\n")
 }
 
+// Makes the line of an entry at an offset, and says whether it is a frame or a gap.
 fn shown_body(offset: u64, body: Body) -> Shown
     ensures { λ r. ⌜ r ≡ shownBody offset body ⌝ }
 {
@@ -78,7 +81,7 @@ fn shown_body(offset: u64, body: Body) -> Shown
     }
 }
 
-// The line of a refusal, the record being the one of that number.
+// Makes the line of a refused record, `refused NUMBER RECORD`, and says that it is none.
 fn refused_record(refusal: Refusal, number: u64) -> Shown
     ensures { λ r. ⌜ r ≡ shownAs (Reading.Refused refusal) number ⌝ }
 {
@@ -104,6 +107,7 @@ pub fn show_record(record: &[u8], number: u64) -> Shown
     }
 }
 
+// Makes the line of an entry, without saying what it is.
 fn entry_line(entry: Entry) -> Line
     ensures { λ r. ⌜ r ≡ shownBody (entry .offset) (entry .body) .line ⌝ }
 {
@@ -112,7 +116,7 @@ fn entry_line(entry: Entry) -> Line
     shown.line
 }
 
-// The line of the gap before a frame at the offset `next`, or an empty line.
+// Makes the line of the gap before a frame at the offset `next`; where there is none an empty line, which prints nothing.
 pub fn gap_before(earlier: Earlier, next: u64) -> Line
     ensures { λ r. ⌜ r ≡ betweenLine (gapTo earlier next) ⌝ }
 {

@@ -5,14 +5,14 @@ ghost use Rattle.lines_rules.specs.Slips.{SlipsTold};
 ghost use Rattle.lines_rules.specs.Statements.{CutRecords};
 use texts_rules::Line;
 
-// What a journal's record turned out to be.
+// What a journal's record turned out to be: `show` counts frames and gaps, and stops at what is no record.
 pub enum What {
     AFrame,
     AGap,
     NoRecord,
 }
 
-// A record's line, with what it is.
+// A record's line, with what the record is.
 pub struct Shown {
     pub what: What,
     pub line: Line,

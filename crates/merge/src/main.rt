@@ -2,7 +2,7 @@
 // Merges two packed recordings of the same time, and writes the journal of the merged frames to standard output.
 // Frames that are not in the journal are counted on standard error, where there are any: `late N double N passed over N`.
 
-// The file that argument i names, open; or what is missing, on standard error, and a negative number.
+// Opens the file that argument i names and gives its descriptor; where that fails, it says so on standard error and gives a negative number.
 fn open_argument(i: usize) -> i32 {
     let mut name = io::buffer();
     let n = os::arg(i, &mut name);
@@ -15,6 +15,7 @@ fn open_argument(i: usize) -> i32 {
     fd
 }
 
+// Reads the table, opens both recordings and merges them; where one of the three is missing, nothing is merged.
 fn main() {
     if os::arg_count() < 4 {
         io::write_all(2, b"usage: merge TABLE PRIMARY ALTERNATE\n");

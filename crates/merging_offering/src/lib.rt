@@ -1,4 +1,4 @@
-// Frames on their way into the merger, each with the hard decoder's yes or no.
+// Hands frames to the merger, each with the hard decoder's yes or no.
 ghost use mathlib.Core.Path.{_≡_};
 ghost use mathlib.Core.Bool.{true, cond};
 ghost use Prim.Native.Nat.{_+_, _≤_, _<_};
@@ -24,7 +24,7 @@ pub struct Offered {
     pub work: Work,
 }
 
-// The merger's yes or no.
+// Gives the yes or no that the merger is handed with a frame: a yes where the decoder accepted it.
 fn passes(outcome: Outcome) -> bool {
     match outcome {
         Outcome::Untried => false,
@@ -76,7 +76,7 @@ fn told(answered: Answered, answer: Keeping, again: bool) -> Answered
     }
 }
 
-// Lays a frame that was kept into its slot.
+// Lays a frame that was kept into its slot; after any other answer the shelf stays as it is.
 fn laid(shelf: Shelf, answer: Keeping, slot: usize, tried: Tried, envelope: &[u8]) -> Shelf
     requires { ⌜ slot < shelfSlots ⌝ ∗ ⌜ length (now envelope) ≡ 48 ⌝ }
     ensures { λ r. ⌜ r .taken ≡ slotsAfter answer slot (shelf .taken) ⌝ }
@@ -126,7 +126,7 @@ fn offer_once(
     }
 }
 
-// Whether the merger refused a frame.
+// Tells whether the merger refused a frame.
 fn is_refused(answer: Keeping) -> bool
     ensures { λ r. ⌜ tells true answer ≡ cond r 0 1 ⌝ }
 {
@@ -138,7 +138,8 @@ fn is_refused(answer: Keeping) -> bool
     }
 }
 
-// Hands a frame in, with the hard decoder's yes or no. Where 16 positions wait, the first is released before its time, as at a flush, and nothing is lost.
+// Hands a frame in, with the hard decoder's yes or no. Where it is refused, as with 16 positions waiting, the first of them is released before its time, as
+// at a flush, and the frame is handed in once more.
 fn offer(w: Work, table: &[u8], stream: usize, head: Head, envelope: &[u8]) -> Work
     requires { ⌜ Accounted w ⌝ ∗ ⌜ toldOf (w .answered) + 1 < mostTold ⌝ ∗ ⌜ length (now envelope) ≡ 48 ⌝ }
     ensures accounted { λ r. ⌜ Accounted r ⌝ }

@@ -1,4 +1,4 @@
-// What the merger releases, into the journal.
+// Writes what the merger releases into the journal.
 ghost use mathlib.Core.Path.{_≡_};
 ghost use Prim.Native.Nat.{_+_, _<_};
 ghost use Rattle.merging_shelf.specs.Slots.{shelfSlots};
@@ -28,7 +28,7 @@ fn write_release(shelf: Shelf, earlier: Earlier, r: Release)
     write_frame(earlier, figures, tried, &envelope);
 }
 
-// Writes what a release hands on; the frame written last after it.
+// Writes what a release hands on, and gives the frame that is then the last one written.
 fn written(shelf: Shelf, earlier: Earlier, answer: Released) -> Earlier
     requires { ⌜ IsFrameSlot answer ⌝ }
     ensures { λ r. ⌜ r ≡ lastWritten answer earlier ⌝ }
@@ -44,7 +44,7 @@ fn written(shelf: Shelf, earlier: Earlier, answer: Released) -> Earlier
     }
 }
 
-// Counts the frames that a release took out.
+// Counts the frames that a release took out: of a position that it hands on, one is in the journal and the other one, if any, gave way to it.
 fn counted(gone: Gone, answer: Released, out: u64) -> Gone
     requires { ⌜ TakesOut answer out ⌝ ∗ ⌜ goneOf gone + out < mostTold ⌝ }
     ensures { λ r. ⌜ r ≡ goneBy answer out gone ⌝ }
@@ -92,7 +92,7 @@ pub fn release_first(w: Work, primary: Clock, alternate: Clock, flush: bool) -> 
     }
 }
 
-// Releases until no position goes out any more.
+// Releases until no position goes out any more: as long as fewer wait than before. It starts from 17, one more than can wait.
 pub fn release_all(w: Work, primary: Clock, alternate: Clock, flush: bool) -> Work
     requires { ⌜ Accounted w ⌝ ∗ ⌜ toldOf (w .answered) < mostTold ⌝ }
     ensures accounted { λ r. ⌜ Accounted r ⌝ }

@@ -1,7 +1,7 @@
 // What two recordings are merged with, what holds of it between calls, and what is counted of the frames. Nothing runs here.
 //
-// Read specs/Accounts.antt for what is counted and what holds, specs/Statements.antt for what follows: each statement is the `ensures` of an empty function, so that
-// it cannot vanish.
+// Read specs/Accounts.antt for what is counted and what holds, specs/Statements.antt for what follows: each statement is the `ensures` of an empty function,
+// so that it cannot vanish.
 ghost use Rattle.merging_rules.specs.Statements.{slotLeft, pushCounted, releaseCounted, allCounted};
 use journal_rules::Earlier;
 use merger::Merger;
@@ -22,7 +22,7 @@ pub struct Gone {
     pub passed: u64,
 }
 
-// The merger, the waiting frames of both streams, the frame written last, and the two counts.
+// All that a merge carries from call to call: the merger, the waiting frames of both streams, the frame written last, and the two counts.
 pub struct Work {
     pub merger: Merger,
     pub shelf: Shelf,

@@ -1,5 +1,5 @@
-// The shelf: a slot for each frame that waits in the merger, and one for the frame that is handed in. At most 16 positions wait, and each holds at most one frame
-// of each stream: so 33 slots are enough, and the memory is constant. A slot's place is the number that the merger keeps for its frame.
+// The shelf: a slot for each frame that waits in the merger, and one for the frame that is handed in. At most 16 positions wait, and each holds at most one
+// frame of each stream: so 33 slots are enough, and the memory is constant. A slot's place is the number that the merger keeps for its frame.
 ghost use mathlib.Core.Path.{_≡_};
 ghost use mathlib.Core.Bool.{true, false};
 ghost use Prim.Native.Nat.{_<_};
@@ -16,7 +16,7 @@ pub struct Shelf {
     pub envelopes: [u8; 1584],
 }
 
-// A shelf on which nothing lies.
+// Gives a shelf on which nothing lies.
 pub fn empty() -> Shelf
     ensures { λ r. ⌜ r .taken ≡ replicate shelfSlots false ⌝ }
 {
@@ -58,7 +58,7 @@ fn with_envelope(envelopes: [u8; 1584], slot: usize, envelope: &[u8]) -> [u8; 15
     all
 }
 
-// Lays a frame into a slot.
+// Lays a frame into a slot: its envelope, and what the decoder said of it.
 pub fn with_frame(shelf: Shelf, slot: usize, tried: Tried, envelope: &[u8]) -> Shelf
     requires { ⌜ slot < shelfSlots ⌝ ∗ ⌜ length (now envelope) ≡ 48 ⌝ }
     ensures taken { λ r. ⌜ r .taken ≡ set (shelf .taken) slot true ⌝ }
@@ -78,7 +78,7 @@ pub fn with_frame(shelf: Shelf, slot: usize, tried: Tried, envelope: &[u8]) -> S
     }
 }
 
-// The envelope in a slot.
+// Copies an envelope out of its slot.
 pub fn envelope_in(envelopes: [u8; 1584], slot: usize) -> [u8; 48]
     requires { ⌜ slot < shelfSlots ⌝ }
     ensures { λ r. ⌜ r ≡ envelopeIn slot envelopes ⌝ }
@@ -105,7 +105,7 @@ fn freed_slot(taken: [bool; 33], free: Free) -> [bool; 33]
     }
 }
 
-// Frees the slots whose numbers the merger gave back.
+// Frees the slots whose numbers the merger gave back; what lies in them stays until another frame is laid there.
 pub fn without(shelf: Shelf, freed: Freed) -> Shelf
     requires { ⌜ IsSlot (freed .primary) ⌝ ∗ ⌜ IsSlot (freed .alternate) ⌝ }
     ensures { λ r. ⌜ r .taken ≡ cleared (freed .alternate) (cleared (freed .primary) (shelf .taken)) ⌝ }
@@ -124,7 +124,7 @@ pub fn without(shelf: Shelf, freed: Freed) -> Shelf
     }
 }
 
-// How many numbers a place gave back.
+// Counts the numbers that a place gave back: one or none.
 fn how_many_free(free: Free) -> u64
     ensures { λ r. ⌜ r ≡ countFree free ⌝ }
 {
@@ -134,7 +134,7 @@ fn how_many_free(free: Free) -> u64
     }
 }
 
-// How many numbers a position gave back.
+// Counts the numbers that a position gave back: at most one for each stream.
 pub fn how_many(freed: Freed) -> u64
     ensures { λ r. ⌜ r ≡ countFreed freed ⌝ }
 {

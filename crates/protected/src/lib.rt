@@ -21,7 +21,7 @@ pub use protected_word::payload_of;
 pub use protected_word::protected;
 pub use protected_word::write_protected;
 
-// How often each number stands in the table.
+// Counts how often each number stands in the table.
 fn occurrences(table: &[u8]) -> [u8; 256]
     requires { ⌜ length (now table) ≡ 188 ⌝ }
     ensures { λ r. ⌜ ((k : ℕ) → k < 256 → getD r k 0 ≡ count k (now (table .entry))) ⌝ }
@@ -34,6 +34,7 @@ fn occurrences(table: &[u8]) -> [u8; 256]
     seen
 }
 
+// Tells whether every odd entry is below 176.
 fn odd_fit(table: &[u8]) -> bool
     requires { ⌜ length (now table) ≡ 188 ⌝ }
     ensures { λ r. ⌜ r ≡ oddFits (now (table .entry)) ⌝ }
@@ -47,6 +48,7 @@ fn odd_fit(table: &[u8]) -> bool
     fit
 }
 
+// Tells whether an even entry is below 176, or is 255 and names no coded bit.
 fn even_entry(e: u8) -> bool
     ensures { λ r. ⌜ r ≡ (ltb e 176 || eqb e 255) ⌝ }
 {
@@ -56,6 +58,7 @@ fn even_entry(e: u8) -> bool
     e == 255
 }
 
+// Tells whether every even entry is below 176 or is 255.
 fn even_fit(table: &[u8]) -> bool
     requires { ⌜ length (now table) ≡ 188 ⌝ }
     ensures { λ r. ⌜ r ≡ evenFits (now (table .entry)) ⌝ }
@@ -69,6 +72,7 @@ fn even_fit(table: &[u8]) -> bool
     fit
 }
 
+// Tells whether each number from 0 to 175 stands in the table exactly once.
 fn each_once(table: &[u8]) -> bool
     requires { ⌜ length (now table) ≡ 188 ⌝ }
     ensures { λ r. ⌜ r ≡ eachOnce (now (table .entry)) ⌝ }
@@ -83,7 +87,7 @@ fn each_once(table: &[u8]) -> bool
     once
 }
 
-// Whether the table is admitted, its length included.
+// Tells whether the table is admitted, its length included.
 pub fn admitted(table: &[u8]) -> bool
     ensures { λ r. ⌜ r ≡ admits (now (table .entry)) ⌝ }
 {

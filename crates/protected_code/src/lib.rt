@@ -1,4 +1,4 @@
-// The code and its inverse filter, over any admitted table.
+// Makes the coded bits of an input, and finds the input of received bits by the inverse filter, over any admitted table.
 ghost use mathlib.Core.Path.{_≡_};
 ghost use Prim.Native.Nat.{ℕ, _≤_};
 ghost use lib.ListN.{getD};
@@ -8,6 +8,7 @@ ghost use Rattle.protected_rules.specs.Convolution.{Input, convolved, inverted,
 use protected_rules::EVEN_MASK;
 use protected_rules::ODD_MASK;
 
+// Copies the 176 coded bits out of the slots.
 fn first_bits(slots: &[u8; 256]) -> [u8; 176]
     ensures { λ r. ⌜ r ≡ tab 176 (λ (k : ℕ). getD (now (slots .entry)) k 0) ⌝ }
 {
@@ -18,7 +19,7 @@ fn first_bits(slots: &[u8; 256]) -> [u8; 176]
     r
 }
 
-// The coded bits of the input. The parities go to 256 slots, so that one that belongs nowhere (255) is out of the way.
+// Gives the coded bits of the input. The parities go to 256 slots, so that one that belongs nowhere (255) is out of the way.
 pub fn convolution(table: &[u8], input: &[u8]) -> [u8; 176]
     requires { ⌜ Admitted (now table) ⌝ }
     requires { ⌜ Input (now input) ⌝ }
@@ -37,7 +38,7 @@ pub fn convolution(table: &[u8], input: &[u8]) -> [u8; 176]
     first_bits(&slots)
 }
 
-// The input whose odd parities are the received bits at the odd entries.
+// Finds the input whose odd parities are the received bits at the odd entries; it looks at no other received bits.
 pub fn inverse(table: &[u8], received: &[u8; 176]) -> [u8; 94]
     requires { ⌜ Admitted (now table) ⌝ }
     ensures { λ r. ⌜ r ≡ inverted (now (table .entry)) (now (received .entry)) ⌝ }
@@ -53,7 +54,7 @@ pub fn inverse(table: &[u8], received: &[u8; 176]) -> [u8; 94]
     input
 }
 
-// The number of coded bits that differ.
+// Counts the coded bits that differ.
 pub fn coded_apart(a: &[u8; 176], b: &[u8; 176]) -> u32
     ensures { λ r. ⌜ (r ≡ codedApart (now (a .entry)) (now (b .entry))) × (r ≤ 45056) ⌝ }
 {

@@ -1,4 +1,4 @@
-// The 8-bit checksum, and the 94 input bits that carry it.
+// Makes the 8-bit checksum, and the 94 input bits that carry it.
 ghost use mathlib.Core.Path.{_≡_};
 ghost use Prim.Native.Nat.{ℕ, _≤_, _<_};
 ghost use lib.ListN.{getD, length};
@@ -8,7 +8,7 @@ ghost use Rattle.protected_rules.specs.Convolution.{Input};
 ghost use Rattle.protected_input.specs.Carrying.{Carried};
 use protected_word::bit;
 
-// A bit is shifted in below, and what has come up to 256 is reduced.
+// Shifts a bit in below, and reduces what has come up to 256 by 0x19b.
 fn crc8_bit(c: u16, b: u16) -> u16
     requires { ⌜ (c < 256) × (b < 2) ⌝ }
     ensures { λ r. ⌜ (r ≡ crc8Step c b) × (r < 256) ⌝ }
@@ -17,7 +17,7 @@ fn crc8_bit(c: u16, b: u16) -> u16
     v ^ (v / 256 * 0x19b)
 }
 
-// Bit i of the 78, and zeros after them.
+// Gives bit i of the 78, and zeros behind them.
 fn crc8_input(shifted: &[u8], i: usize) -> u16
     requires { ⌜ 78 ≤ length (now shifted) ⌝ }
     ensures { λ r. ⌜ r ≡ then-zeros (λ (k : ℕ). getD (now (shifted .entry)) k 0) i ⌝ }
@@ -28,7 +28,7 @@ fn crc8_input(shifted: &[u8], i: usize) -> u16
     0
 }
 
-// The checksum of the first 78 bits, a bit to a byte.
+// Computes the checksum of the first 78 bits, a bit to a byte: it shifts in these and eight zeros.
 fn crc8(shifted: &[u8]) -> u8
     requires { ⌜ (78 ≤ length (now shifted)) × Bits (now shifted) ⌝ }
     ensures { λ r. ⌜ r ≡ crc8Of (λ (k : ℕ). getD (now (shifted .entry)) k 0) ⌝ }
@@ -40,7 +40,7 @@ fn crc8(shifted: &[u8]) -> u8
     q as u8
 }
 
-// The checksum of the payload bits that an input holds.
+// Computes the checksum of the payload bits that an input holds.
 pub fn checksum_of(input: &[u8]) -> u8
     requires { ⌜ Input (now input) ⌝ }
     ensures { λ r. ⌜ r ≡ checksumFor (now (input .entry)) ⌝ }
@@ -53,6 +53,7 @@ pub fn checksum_of(input: &[u8]) -> u8
 // The eight input bits that hold the checksum, its lowest bit first.
 const POSITIONS: [usize; 8] = [0, 1, 2, 3, 82, 83, 84, 85];
 
+// Gives the input bit that holds bit i of the checksum.
 fn position_of(i: usize) -> usize
     requires { ⌜ i < 8 ⌝ }
     ensures { λ r. ⌜ (r ≡ position i) × (r < 94) ⌝ }
@@ -60,7 +61,7 @@ fn position_of(i: usize) -> usize
     POSITIONS[i]
 }
 
-// The checksum that an input holds.
+// Reads the checksum that an input holds. It goes from the highest bit down: each turn doubles what it has.
 pub fn checksum_in(input: &[u8]) -> u8
     requires { ⌜ Input (now input) ⌝ }
     ensures { λ r. ⌜ r ≡ checksumIn (now (input .entry)) ⌝ }
@@ -76,7 +77,7 @@ pub fn checksum_in(input: &[u8]) -> u8
 
 // ---- the input bits of a payload
 
-// The payload's 78 bits in their places, and zeros in all others.
+// Puts the payload's first 78 bits in their places, and zeros in all others.
 fn carried(payload: &[u8]) -> [u8; 94]
     requires { ⌜ length (now payload) ≡ 20 ⌝ }
     ensures { λ r. ⌜ Carried (now (payload .entry)) r 78 ⌝ }
@@ -88,7 +89,7 @@ fn carried(payload: &[u8]) -> [u8; 94]
     input
 }
 
-// The input bits of a payload: its bits, and then the checksum's.
+// Makes the input bits of a payload: puts its bits in, and then those of their checksum.
 pub fn input_of(payload: &[u8]) -> [u8; 94]
     requires { ⌜ length (now payload) ≡ 20 ⌝ }
     ensures { λ r. ⌜ r ≡ inputOf (now (payload .entry)) ⌝ }

@@ -1,10 +1,12 @@
-// What the protected part of a voice frame means: the coordinate table, the checksum, the input bits, the code and its inverse, and where the bits lie in a word.
-// There is no code here, each theorem is the `ensures` of an empty function, so that it cannot vanish; the crate `protected` has the code that follows these definitions.
+// What the protected part of a voice frame means: the coordinate table, the checksum, the input bits, the code and its inverse, and where the bits lie in a
+// word. There is no code here: each theorem is the `ensures` of an empty function, so that it cannot vanish. The crate `protected` names the code that
+// follows these definitions.
 ghost use Rattle.protected_rules.specs.Statements.{AdmissionMeaning, ChecksumMeaning, CodeMeaning, InputMeaning, WordMeaning};
 
-// The masks of a table's even entries and of its odd ones, as specs/Convolution.antt has them.
+// Picks those of a step's nine bits whose parity goes to the table's even entry, as specs/Convolution.antt has it.
 pub const EVEN_MASK: u32 = 0x1af;
 
+// Picks those of a step's nine bits whose parity goes to the table's odd entry.
 pub const ODD_MASK: u32 = 0x11d;
 
 // The checksum is the remainder of a division of polynomials.
@@ -17,7 +19,7 @@ pub fn input_meaning()
     ensures { λ _. ⌜ InputMeaning ⌝ }
 {}
 
-// Each coded bit is a sum of input bits, those of its generator.
+// Each coded bit is a sum of input bits, those of its generator; the inverse filter finds what was coded.
 pub fn code_meaning()
     ensures { λ _. ⌜ CodeMeaning ⌝ }
 {}
@@ -27,7 +29,7 @@ pub fn word_meaning()
     ensures { λ _. ⌜ WordMeaning ⌝ }
 {}
 
-// Which tables are admitted.
+// The test admits exactly the tables that keep document 01's rules.
 pub fn admission_meaning()
     ensures { λ _. ⌜ AdmissionMeaning ⌝ }
 {}

@@ -1,11 +1,11 @@
-// Where the coded bits and the payload's bits lie in a word.
+// Reads and writes the coded bits and the payload's bits where they lie in a word.
 ghost use mathlib.Core.Path.{_≡_};
 ghost use Prim.Native.Nat.{_+_, _*_, _≤_, _<_};
 ghost use lib.ListN.{getD, length};
 ghost use Rattle.bits.specs.Bit.{bitLo, number, Bits};
 ghost use Rattle.protected_rules.specs.Word.{coded, withCodedByte, withCoded, payloadBit, payloadOf, frontByte, front};
 
-// Bit i of a slice of bytes, lowest bit first in its byte.
+// Gives bit i of a slice of bytes, lowest bit first in its byte.
 pub fn bit(bytes: &[u8], i: usize) -> u8
     requires { ⌜ i < 8 * length (now bytes) ⌝ }
     ensures { λ r. ⌜ r ≡ bitLo (now (bytes .entry)) i ⌝ }
@@ -13,7 +13,7 @@ pub fn bit(bytes: &[u8], i: usize) -> u8
     (bytes[i / 8] >> (i % 8)) % 2
 }
 
-// The coded bits of a word, a bit to a byte.
+// Reads the coded bits of a word, a bit to a byte.
 pub fn protected(word: &[u8; 42]) -> [u8; 176]
     ensures { λ r. ⌜ r ≡ coded (now (word .entry)) ⌝ }
 {
@@ -24,7 +24,7 @@ pub fn protected(word: &[u8; 42]) -> [u8; 176]
     r
 }
 
-// Every second of 16 bits from a place on, as a byte, lowest first.
+// Packs eight coded bits, every second one from `from` on, into a byte, the first lowest. It goes from the last down: each turn doubles what it has.
 fn gather(code: &[u8; 176], from: usize) -> u8
     requires { ⌜ (from + 14 < 176) × Bits (now code) ⌝ }
     ensures { λ r. ⌜ r ≡ number 8 (λ j. getD (now (code .entry)) (from + 2 * j) 0) ⌝ }
@@ -38,6 +38,7 @@ fn gather(code: &[u8; 176], from: usize) -> u8
     v
 }
 
+// Gives byte k of the word with the coded bits put in: bytes 5 to 15 hold the even ones, bytes 21 to 31 the odd ones, all others stay.
 fn coded_byte(word: &[u8; 42], code: &[u8; 176], k: usize) -> u8
     requires { ⌜ (k < 42) × Bits (now code) ⌝ }
     ensures { λ r. ⌜ r ≡ withCodedByte (now (word .entry)) (now (code .entry)) k ⌝ }
@@ -57,7 +58,7 @@ fn coded_byte(word: &[u8; 42], code: &[u8; 176], k: usize) -> u8
     word[k]
 }
 
-// The word with the coded bits put in.
+// Gives the word with the coded bits put in.
 pub fn write_protected(word: &[u8; 42], code: &[u8; 176]) -> [u8; 42]
     requires { ⌜ Bits (now code) ⌝ }
     ensures { λ r. ⌜ r ≡ withCoded (now (word .entry)) (now (code .entry)) ⌝ }
@@ -71,6 +72,7 @@ pub fn write_protected(word: &[u8; 42], code: &[u8; 176]) -> [u8; 42]
 
 // ---- the payload
 
+// Gives bit i of the payload: the first 78 from the input, 40 from word bytes 0 to 4, 40 from bytes 16 to 20, and two zeros.
 fn payload_bit(word: &[u8; 42], input: &[u8; 94], i: usize) -> u8
     requires { ⌜ i < 160 ⌝ }
     ensures { λ r. ⌜ r ≡ payloadBit (now (word .entry)) (now (input .entry)) i ⌝ }
@@ -87,6 +89,7 @@ fn payload_bit(word: &[u8; 42], input: &[u8; 94], i: usize) -> u8
     0
 }
 
+// Packs eight payload bits into byte k, the first lowest. It goes from the last down: each turn doubles what it has.
 fn payload_byte(word: &[u8; 42], input: &[u8; 94], k: usize) -> u8
     requires { ⌜ (k < 20) × Bits (now input) ⌝ }
     ensures { λ r. ⌜ r ≡ number 8 (λ j. payloadBit (now (word .entry)) (now (input .entry)) (8 * k + j)) ⌝ }
@@ -100,7 +103,7 @@ fn payload_byte(word: &[u8; 42], input: &[u8; 94], k: usize) -> u8
     v
 }
 
-// The payload that a word and an input hold.
+// Gives the payload that a word and an input hold.
 pub fn payload_of(word: &[u8; 42], input: &[u8; 94]) -> [u8; 20]
     requires { ⌜ Bits (now input) ⌝ }
     ensures { λ r. ⌜ r ≡ payloadOf (now (word .entry)) (now (input .entry)) ⌝ }
@@ -112,7 +115,7 @@ pub fn payload_of(word: &[u8; 42], input: &[u8; 94]) -> [u8; 20]
     payload
 }
 
-// Eight bits from a place on, as a byte.
+// Reads eight payload bits from bit i on as a byte, the first lowest. It goes from the last down: each turn doubles what it has.
 fn byte_from(payload: &[u8], i: usize) -> u8
     requires { ⌜ (length (now payload) ≡ 20) × (i + 8 ≤ 160) ⌝ }
     ensures { λ r. ⌜ r ≡ number 8 (λ j. bitLo (now (payload .entry)) (i + j)) ⌝ }
@@ -126,6 +129,7 @@ fn byte_from(payload: &[u8], i: usize) -> u8
     v
 }
 
+// Gives byte k of the front: bytes 0 to 4 hold payload bits 78 to 117, bytes 16 to 20 bits 118 to 157, all others are zero.
 fn front_byte(payload: &[u8], k: usize) -> u8
     requires { ⌜ (length (now payload) ≡ 20) × (k < 42) ⌝ }
     ensures { λ r. ⌜ r ≡ frontByte (now (payload .entry)) k ⌝ }
@@ -142,7 +146,7 @@ fn front_byte(payload: &[u8], k: usize) -> u8
     0
 }
 
-// The bytes of a word that hold the payload's last 80 bits.
+// Makes a word that holds the payload's last 80 bits in its bytes 0 to 4 and 16 to 20, and zeros in all others.
 pub fn front_of(payload: &[u8]) -> [u8; 42]
     requires { ⌜ length (now payload) ≡ 20 ⌝ }
     ensures { λ r. ⌜ r ≡ front (now (payload .entry)) ⌝ }

@@ -1,6 +1,7 @@
 // slips
 // Lists the frames in packed dibits on standard input that followed a slip, with their moves.
-// `slip OFFSET FRONT SECOND THIRD`: how far a frame's front was moved and its second and third segment lie off their places, in bits; and last `end FRAMES SLIPS NETSLIP`.
+// `slip OFFSET FRONT SECOND THIRD`: how far a frame's front was moved and its second and third segment lie off their places, in bits;
+// and last `end FRAMES SLIPS NETSLIP`.
 fn main() {
     tasks::slips(0);
 }

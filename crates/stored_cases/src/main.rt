@@ -1,11 +1,12 @@
 // stored_cases CASE..
 // Runs the programs on the stored cases of the gate.
-// A case is a program, its table if it has one, and its files; a line with these words stands before what the program writes, what it says of its table included.
+// A case is a program, its table if it has one, and its files;
+// a line with these words stands before what the program writes, what it says of its table included.
 // `record` is without a table, `record-with` has one.
 
 ghost use Prim.Native.Nat.{_<_, _≤_};
 
-// A word of the line, and the file of that name, open.
+// Prints argument i as a word of the case's line, opens the file of that name, and gives its descriptor.
 fn opened(i: usize) -> i32 {
     let mut name = [0u8; 64];
     let n = os::arg(i, &mut name);
@@ -14,7 +15,7 @@ fn opened(i: usize) -> i32 {
     os::open_read(&name[..n])
 }
 
-// listing FILE, slips FILE, record FILE, show FILE: the second letters tell them apart.
+// Runs listing, slips, record or show on a file; their second letters tell them apart. Gives how many arguments the case has.
 fn run_on_file(letter: u8, i: usize) -> usize
     requires { ⌜ i < 200 ⌝ }
     ensures { λ r. ⌜ r ≤ 4 ⌝ }
@@ -37,7 +38,7 @@ fn run_on_file(letter: u8, i: usize) -> usize
     2
 }
 
-// record-with TABLE FILE, speech TABLE FILE.
+// Runs record-with or speech on a table and a file, and gives how many arguments the case has. The table's file is opened here only to print its name.
 fn run_with_table(letter: u8, i: usize) -> usize
     requires { ⌜ i < 200 ⌝ }
     ensures { λ r. ⌜ r ≤ 4 ⌝ }
@@ -58,7 +59,7 @@ fn run_with_table(letter: u8, i: usize) -> usize
     3
 }
 
-// merge TABLE PRIMARY ALTERNATE.
+// Runs merge on a table and two recordings, and gives how many arguments the case has. The table's file is opened here only to print its name.
 fn run_merge(i: usize) -> usize
     requires { ⌜ i < 200 ⌝ }
     ensures { λ r. ⌜ r ≤ 4 ⌝ }
@@ -77,7 +78,7 @@ fn run_merge(i: usize) -> usize
     4
 }
 
-// The case at argument i, by its program's letters; how many arguments it has, none where there is no case.
+// Runs the case at argument i, whose program it tells by its letters, and gives how many arguments it has: none where there is no case.
 fn run_one(i: usize) -> usize
     requires { ⌜ i < 199 ⌝ }
     ensures { λ r. ⌜ r ≤ 4 ⌝ }
@@ -103,6 +104,7 @@ fn run_one(i: usize) -> usize
     run_on_file(second, i + 1)
 }
 
+// Runs the cases one after the other, as far as there are arguments; no case begins at argument 199 or later.
 fn main() {
     let mut i = 1;
     while i < 199 {

@@ -1,9 +1,10 @@
-// The table from the file that an argument names. A table that is missing, cannot be read or is not admitted, its length included, is said with document 01's
-// number and the file's name, on the open file that the caller gives: standard error, where a program runs alone.
+// Reads the table from the file that an argument names. A table that is missing, cannot be read or is not admitted, its length included, is refused with
+// document 01's number and the file's name, on the open file that the caller gives: standard error, where a program runs alone.
 ghost use mathlib.Core.Path.{_≡_};
 ghost use mathlib.Core.Bool.{true, false};
 ghost use Rattle.protected_rules.specs.Table.{Admitted};
 
+// Writes `refused 4` and the file's name to the open file `errors`, and gives a no.
 fn refuse(name: &[u8], errors: i32) -> bool
     ensures { λ r. ⌜ r ≡ false ⌝ }
 {
@@ -15,7 +16,7 @@ fn refuse(name: &[u8], errors: i32) -> bool
     false
 }
 
-// Whether the file holds exactly what the lent table has room for.
+// Reads the file into the lent table, and tells whether it holds exactly as many bytes: it asks for one more to see that none follows.
 fn read_whole(fd: i32, table: &mut [u8]) -> bool {
     let size = io::read_full(fd, &mut *table);
     let mut behind = [0u8; 1];
@@ -26,6 +27,7 @@ fn read_whole(fd: i32, table: &mut [u8]) -> bool {
     rest == 0
 }
 
+// Reads the table from the file of that name and says yes only where what is left in the lent table is admitted; it refuses any other.
 fn read(name: &[u8], errors: i32, table: &mut [u8]) -> bool
     ensures { λ r. ⌜ (r ≡ true → Admitted (now (table .exit))) ⌝ }
 {
@@ -43,7 +45,7 @@ fn read(name: &[u8], errors: i32, table: &mut [u8]) -> bool
     refuse(name, errors)
 }
 
-// The table in the file that argument i names, into the lent table of 188 bytes. A yes only where what is left there is admitted.
+// Reads the table from the file that argument i names into the lent table of 188 bytes. Says yes only where what is left there is admitted.
 pub fn from_argument(i: usize, errors: i32, table: &mut [u8]) -> bool
     ensures { λ r. ⌜ (r ≡ true → Admitted (now (table .exit))) ⌝ }
 {

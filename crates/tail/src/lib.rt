@@ -10,7 +10,7 @@ use tail_lent::repair_lent;
 pub use tail_making::encode_word;
 pub use tail_rules::Repairing;
 
-// Repairs a lent tail with places erased.
+// Repairs a lent tail with places erased and gives how many bytes it changed; it refuses by 5, 11 and 10, in this order, and then writes nothing.
 pub fn repair_erasures(tail: &mut [u8], places: &[u8]) -> Repairing
     ensures { λ r. ⌜ r ≡ tailAnswer (now (places .entry)) (now (tail .entry)) ⌝ }
     ensures leaves { λ r. ⌜ now (tail .exit) ≡ tailLeaves (now (places .entry)) (now (tail .entry)) ⌝ }
@@ -24,7 +24,7 @@ pub fn repair_erasures(tail: &mut [u8], places: &[u8]) -> Repairing
     repair_lent(tail, places)
 }
 
-// Repairs a lent tail.
+// Repairs a lent tail with no place erased.
 pub fn repair(tail: &mut [u8]) -> Repairing
     ensures { λ r. ⌜ r ≡ tailAnswer [] (now (tail .entry)) ⌝ }
     ensures leaves { λ r. ⌜ now (tail .exit) ≡ tailLeaves [] (now (tail .entry)) ⌝ }
@@ -44,7 +44,7 @@ pub fn repair_word_erasures(word: &mut [u8], places: &[u8]) -> Repairing
     repair_erasures(&mut word[28..], places)
 }
 
-// Repairs a lent word.
+// Repairs a lent word with no place of its tail erased.
 pub fn repair_word(word: &mut [u8]) -> Repairing
     ensures { λ r. ⌜ r ≡ wordAnswer [] (now (word .entry)) ⌝ }
     ensures leaves { λ r. ⌜ now (word .exit) ≡ wordLeaves [] (now (word .entry)) ⌝ }

@@ -1,4 +1,5 @@
-// The bytes to add at the marked places: a linear system with a power of each place's node in each row and a syndrome on the right.
+// Finds the bytes to add at the marked places: a linear system has them, with a power of each place's node in each row and a syndrome on the right.
+// A place's mark is 0; the node of place i is 2^(13 - i).
 ghost use mathlib.Core.Path.{_≡_};
 ghost use Prim.Native.Nat.{_<_, _≤_};
 ghost use lib.ListN.{length, take};
@@ -8,13 +9,13 @@ ghost use Rattle.tail_rules.specs.Code.{syndrome};
 ghost use Rattle.tail_rules.specs.Steps.{exponentsOf, addedAt, RowOf, SystemOf, Corrected};
 use tail_solving::solve;
 
-// Up to six exponents, and how many.
+// The exponents of up to six nodes, and how many these are.
 struct Places {
     at: [u8; 6],
     count: usize,
 }
 
-// The exponents of the marked places.
+// Collects the exponents of the marked places' nodes.
 fn exponents(v: [u8; 14]) -> Places
     requires { ⌜ length (exponentsOf v) ≤ 6 ⌝ }
     ensures { λ r. ⌜ (take (r .count) (r .at) ≡ exponentsOf v) × (r .count ≡ length (exponentsOf v)) × (length (r .at) ≡ 6) ⌝ }
@@ -35,7 +36,7 @@ fn exponents(v: [u8; 14]) -> Places
     }
 }
 
-// Row r: the r-th power of each place's node, and the syndrome s on the right.
+// Makes row r: the r-th power of each place's node, and the syndrome s on the right.
 fn row(powers: &field::PowerTable, at: [u8; 6], count: usize, r: usize, s: u8) -> [u8; 7]
     requires { ⌜ Powers (now powers) ⌝ ∗ ⌜ count ≤ 6 ⌝ ∗ ⌜ r < 6 ⌝ }
     ensures { λ o. ⌜ RowOf at count r s o ⌝ }
@@ -50,7 +51,7 @@ fn row(powers: &field::PowerTable, at: [u8; 6], count: usize, r: usize, s: u8) -
     out
 }
 
-// The six rows; only the first `count` are solved.
+// Makes the six rows; only the first `count` are solved.
 fn system(powers: &field::PowerTable, at: [u8; 6], count: usize, s: [u8; 6]) -> [[u8; 7]; 6]
     requires { ⌜ Powers (now powers) ⌝ ∗ ⌜ count ≤ 6 ⌝ }
     ensures { λ m. ⌜ SystemOf at count s m ⌝ }
@@ -64,7 +65,7 @@ fn system(powers: &field::PowerTable, at: [u8; 6], count: usize, s: [u8; 6]) -> 
     out
 }
 
-// t with the bytes y added at the marked places.
+// Adds the bytes y to the tail t at the marked places, one after the other.
 fn added(v: [u8; 14], t: [u8; 14], y: [u8; 6]) -> [u8; 14]
     requires { ⌜ length (exponentsOf v) ≤ 6 ⌝ }
     ensures { λ r. ⌜ r ≡ addedAt v t y ⌝ }
@@ -82,7 +83,7 @@ fn added(v: [u8; 14], t: [u8; 14], y: [u8; 6]) -> [u8; 14]
     out
 }
 
-// The tail changed at the marked places so that its syndromes vanish, if that can be.
+// Changes the tail at the marked places into the one codeword that differs from it there alone; where there is none, the answer is no codeword.
 pub fn correct(
     powers: &field::PowerTable,
     logs: &field::LogTable,

@@ -1,4 +1,4 @@
-// Erased places: their locator, and the syndromes with these places taken out (Forney).
+// Makes the locator of the erased places, and takes these places out of the syndromes (Forney).
 ghost use mathlib.Core.Path.{_≡_};
 ghost use Prim.Native.Nat.{_≤_};
 ghost use Rattle.bits.specs.Bit.{Below};
@@ -7,7 +7,7 @@ ghost use Rattle.tail_rules.specs.Steps.{erasureLocator, Forney};
 use crate::massey::corrected;
 use crate::massey::discrepancy;
 
-// The product of 1 + 2^(13 - e) x over the erased places.
+// Multiplies 1 + 2^(13 - e) x over the erased places e, from the last to the first as the definition does.
 pub fn erased_locator(powers: &field::PowerTable, logs: &field::LogTable, es: &[u8]) -> [u8; 7]
     requires { ⌜ Powers (now powers) ⌝ ∗ ⌜ Logs (now logs) ⌝ ∗ ⌜ Below 14 (now es) ⌝ }
     ensures { λ r. ⌜ r ≡ erasureLocator (now (es .entry)) ⌝ }
@@ -23,7 +23,7 @@ pub fn erased_locator(powers: &field::PowerTable, logs: &field::LogTable, es: &[
     g
 }
 
-// The syndromes with the erased places taken out.
+// Takes the f erased places, whose locator is g, out of the syndromes: 6 - f are left.
 pub fn forney(
     powers: &field::PowerTable,
     logs: &field::LogTable,

@@ -1,10 +1,11 @@
-// Berlekamp-Massey: the shortest locator of a sequence. specs/Massey.antt has the same algorithm on lists; each function here is one of its steps.
+// Berlekamp-Massey: finds the shortest locator of a sequence. Crate `tail_rules`, specs/Massey.antt, has the same algorithm on lists; each function here is
+// one of its steps.
 ghost use mathlib.Core.Path.{_≡_};
 ghost use Prim.Native.Nat.{_+_, _<_, _≤_};
 ghost use Rattle.field.specs.Lent.{Powers, Logs};
 ghost use Rattle.tail_rules.specs.Massey.{state, step, coefficient, run, updated};
 
-// The locator plus k x^gap times the older one.
+// Adds k x^gap times the older locator to the locator.
 pub(crate) fn corrected(
     powers: &field::PowerTable,
     logs: &field::LogTable,
@@ -25,7 +26,7 @@ pub(crate) fn corrected(
     out
 }
 
-// The discrepancy of the locator at step n, summed from the highest coefficient down.
+// Sums the discrepancy of the locator at step n, from the highest coefficient down.
 pub(crate) fn discrepancy(
     powers: &field::PowerTable,
     logs: &field::LogTable,
@@ -45,7 +46,7 @@ pub(crate) fn discrepancy(
     d
 }
 
-// The locator, the one before it last grew, its degree, the steps since then, and the discrepancy then.
+// What goes from step to step: the locator, the one before it last grew, its degree, the steps since it grew, and the discrepancy then.
 pub struct State {
     pub loc: [u8; 7],
     pub old: [u8; 7],
@@ -54,7 +55,7 @@ pub struct State {
     pub last: u8,
 }
 
-// One step, with the discrepancy d.
+// Takes step n with the discrepancy d: where that is 0 the locator stays, else it is corrected, and grows where it is too short.
 fn step(powers: &field::PowerTable, logs: &field::LogTable, st: State, d: u8, n: usize) -> State
     requires { ⌜ Powers (now powers) ⌝ ∗ ⌜ Logs (now logs) ⌝ ∗ ⌜ n < 6 ⌝ ∗ ⌜ st .gap ≤ n + 1 ⌝ ∗ ⌜ st .degree ≤ n ⌝ }
     ensures { λ r. ⌜ state (r .loc) (r .old) (r .degree) (r .gap) (r .last) ≡ step n (state (st .loc) (st .old) (st .degree) (st .gap) (st .last)) d ⌝ }
@@ -93,7 +94,7 @@ fn step(powers: &field::PowerTable, logs: &field::LogTable, st: State, d: u8, n:
     }
 }
 
-// Berlekamp-Massey over the first len terms.
+// Finds the shortest locator of the first `len` terms.
 pub fn shortest_locator(
     powers: &field::PowerTable,
     logs: &field::LogTable,

@@ -1,10 +1,10 @@
-// The making of a tail by value, with the tables lent: six bytes, their CRC-16, and the six parity bytes.
+// Makes a tail by value, with the tables lent: six bytes, their CRC-16, and the six parity bytes.
 ghost use mathlib.Core.Path.{_≡_};
 ghost use mathlib.Core.List.{_++_};
 ghost use Rattle.field.specs.Lent.{Powers, Logs};
 ghost use Rattle.tail_rules.specs.Encode.{withCrc, tailOf};
 
-// Six bytes and their checksum, high byte first.
+// Puts the CRC-16 of six bytes behind them, high byte first.
 fn with_crc(d: [u8; 6]) -> [u8; 8]
     ensures { λ r. ⌜ r ≡ withCrc d ⌝ }
 {
@@ -21,7 +21,7 @@ fn with_crc(d: [u8; 6]) -> [u8; 8]
     ]
 }
 
-// Eight bytes followed by six.
+// Puts six bytes behind eight.
 fn joined(d: [u8; 8], r: [u8; 6]) -> [u8; 14]
     ensures { λ o. ⌜ o ≡ d ++ r ⌝ }
 {
@@ -43,7 +43,7 @@ fn joined(d: [u8; 8], r: [u8; 6]) -> [u8; 14]
     ]
 }
 
-// The tail made of six bytes, with the tables lent.
+// Makes the tail of six bytes, with the tables lent.
 pub fn tail_by(powers: &field::PowerTable, logs: &field::LogTable, d: [u8; 6]) -> [u8; 14]
     requires { ⌜ Powers (now powers) ⌝ ∗ ⌜ Logs (now logs) ⌝ }
     ensures { λ r. ⌜ r ≡ tailOf d ⌝ }

@@ -1,10 +1,10 @@
-// A lent tail: its first bytes copied out, and the tail made of them written over it.
+// Makes a lent tail: copies its first six bytes out, and writes the tail made of them over it.
 ghost use mathlib.Core.Path.{_≡_};
 ghost use lib.ListN.{length, take};
 ghost use Rattle.tail_rules.specs.Encode.{tailOf};
 use crate::by_value::tail_by;
 
-// The first six bytes of a tail.
+// Copies the first six bytes of a tail out.
 fn six(tail: &[u8]) -> [u8; 6]
     requires { ⌜ length (now tail) ≡ 14 ⌝ }
     ensures { λ r. ⌜ r ≡ take 6 (now (tail .entry)) ⌝ }
@@ -14,7 +14,7 @@ fn six(tail: &[u8]) -> [u8; 6]
     out
 }
 
-// Fourteen lent bytes made the tail of their first six.
+// Makes fourteen lent bytes the tail of their first six.
 pub(crate) fn make_tail(tail: &mut [u8])
     requires { ⌜ length (now tail) ≡ 14 ⌝ }
     ensures { λ r. ⌜ now (tail .exit) ≡ tailOf (take 6 (now (tail .entry))) ⌝ }

@@ -1,4 +1,4 @@
-// The making of a word's tail, for the crate `tail`, which names the call, and for `voice_frame`: six bytes, their CRC-16 and six parity bytes.
+// Makes a word's tail, for the crate `tail`, which names the call, and for `voice_words`: six bytes, their CRC-16 and six parity bytes.
 // The definitions are in crate `tail_rules`, specs/Encode.antt, what they mean in specs/MakingStatements.antt.
 ghost use mathlib.Core.Path.{_≡_};
 ghost use Rattle.tail_rules.specs.Encode.{encodeAnswer, encodeLeaves};
@@ -10,7 +10,7 @@ mod lent;
 
 pub use by_value::tail_by;
 
-// The tail of a lent word made from its bytes 28 to 33.
+// Makes the tail of a lent word from its bytes 28 to 33. Refuses (5) a word that is not 42 bytes, and then writes nothing.
 pub fn encode_word(word: &mut [u8]) -> Writing
     ensures { λ r. ⌜ r ≡ encodeAnswer (now (word .entry)) ⌝ }
     ensures leaves { λ r. ⌜ now (word .exit) ≡ encodeLeaves (now (word .entry)) ⌝ }

@@ -1,5 +1,5 @@
-// The six parity bytes of a tail, for the crate `tail_making`: the remainder that a register over the generator leaves, as crate `tail_rules` defines it in
-// specs/Encode.antt. `powers` and `logs` are the field's lent tables.
+// Makes the six parity bytes of a tail, for the crate `tail_making`: the remainder that a register over the generator leaves, as crate `tail_rules` defines it
+// in specs/Encode.antt. `powers` and `logs` are the field's lent tables.
 ghost use mathlib.Core.Path.{_≡_};
 ghost use Rattle.field.specs.Lent.{Powers, Logs};
 ghost use Rattle.tail_rules.specs.Encode.{generatorOf, registered, parityOf};
@@ -7,14 +7,14 @@ ghost use Rattle.tail_rules.specs.Encode.{generatorOf, registered, parityOf};
 // The generator's seven coefficients, the first of highest degree.
 const GENERATOR: [u8; 7] = [1, 63, 1, 218, 32, 227, 38];
 
-// The generator as a value: a constant is stored anew at each use.
+// Gives the generator as a value, to be made once a call: a constant is stored anew at each use.
 fn generator() -> [u8; 7]
     ensures { λ r. ⌜ r ≡ generatorOf ⌝ }
 {
     GENERATOR
 }
 
-// The register after one byte; f is that byte plus the register's first.
+// Shifts the register by one byte and takes f times the generator off; f is that byte plus the register's first.
 fn register(
     powers: &field::PowerTable,
     logs: &field::LogTable,
@@ -35,7 +35,7 @@ fn register(
     ]
 }
 
-// The six parity bytes of eight: what the register holds once they have passed through it.
+// Gives the six parity bytes of eight: what the register holds once they have passed through it.
 pub fn parity_bytes(powers: &field::PowerTable, logs: &field::LogTable, d: [u8; 8]) -> [u8; 6]
     requires { ⌜ Powers (now powers) ⌝ ∗ ⌜ Logs (now logs) ⌝ }
     ensures { λ r. ⌜ r ≡ parityOf d ⌝ }

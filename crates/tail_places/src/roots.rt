@@ -1,4 +1,4 @@
-// Where a tail may be wrong: the roots of the locator that Berlekamp-Massey finds, and the erased places.
+// Marks where a tail may be wrong: the roots of the locator that Berlekamp-Massey finds, and the erased places.
 ghost use mathlib.Core.Path.{_≡_};
 ghost use mathlib.Core.Bool.{cond};
 ghost use Prim.Native.Nat.{_+_, _≤_};
@@ -13,7 +13,7 @@ use tail_locators::erased_locator;
 use tail_locators::forney;
 use tail_locators::shortest_locator;
 
-// The value of the locator at 2^e.
+// Evaluates the locator at 2^e, from the highest coefficient down (Horner).
 fn evaluate(powers: &field::PowerTable, logs: &field::LogTable, loc: [u8; 7], e: usize) -> u8
     requires { ⌜ Powers (now powers) ⌝ ∗ ⌜ Logs (now logs) ⌝ ∗ ⌜ e ≤ 255 ⌝ }
     ensures { λ r. ⌜ r ≡ evalAt loc (power e) ⌝ }
@@ -27,7 +27,7 @@ fn evaluate(powers: &field::PowerTable, logs: &field::LogTable, loc: [u8; 7], e:
     v
 }
 
-// The locator's value for each place: 0 at a root.
+// Evaluates the locator for each place p, at 2^(242 + p), which is 1 over the place's node 2^(13 - p): 0 says that p is a root's place.
 fn values(powers: &field::PowerTable, logs: &field::LogTable, loc: [u8; 7]) -> [u8; 14]
     requires { ⌜ Powers (now powers) ⌝ ∗ ⌜ Logs (now logs) ⌝ }
     ensures { λ r. ⌜ r ≡ tab 14 (λ p. evalAt loc (power (242 + p))) ⌝ }
@@ -41,7 +41,7 @@ fn values(powers: &field::PowerTable, logs: &field::LogTable, loc: [u8; 7]) -> [
     out
 }
 
-// How many of these are 0?
+// Counts the zeros. It goes from the last place to the first: the definition counts the rest of a list first.
 fn zeros(v: [u8; 14]) -> usize
     ensures { λ r. ⌜ r ≡ length (exponentsOf v) ⌝ }
 {
@@ -56,7 +56,7 @@ fn zeros(v: [u8; 14]) -> usize
     n
 }
 
-// 0 at an erased place, else x.
+// Gives 0 at an erased place p, else x.
 fn mark(es: &[u8], x: u8, p: usize) -> u8
     ensures { λ r. ⌜ r ≡ cond (among p (now (es .entry))) 0 x ⌝ }
 {
@@ -66,7 +66,7 @@ fn mark(es: &[u8], x: u8, p: usize) -> u8
     x
 }
 
-// The roots and the erased places, each marked by a 0.
+// Marks the roots' places and the erased places, each by a 0.
 fn marked(v: [u8; 14], es: &[u8]) -> [u8; 14]
     ensures { λ r. ⌜ r ≡ tab 14 (markAt (now (es .entry)) v) ⌝ }
 {
@@ -79,13 +79,13 @@ fn marked(v: [u8; 14], es: &[u8]) -> [u8; 14]
     out
 }
 
-// Whether a repair may be, and the marks: 0 at each place that may be wrong.
+// Whether a repair may succeed, and the marks: 0 at each place that may be wrong.
 pub struct Found {
     pub ok: bool,
     pub marks: [u8; 14],
 }
 
-// Where a word with these syndromes may be wrong.
+// Finds where a tail with these syndromes may be wrong. There is no repair where the locator's degree is too high or it has not as many roots among the places.
 pub fn locate(powers: &field::PowerTable, logs: &field::LogTable, s: [u8; 6], es: &[u8]) -> Found
     requires { ⌜ Powers (now powers) ⌝ ∗ ⌜ Logs (now logs) ⌝ ∗ ⌜ length (now es) ≤ 6 ⌝ ∗ ⌜ Below 14 (now es) ⌝ }
     ensures { λ r. ⌜ Located (now (es .entry)) s (r .ok) (r .marks) ⌝ }

@@ -1,4 +1,4 @@
-// The six syndromes of a tail: its values at 2^0 to 2^5. Of a codeword, and of no other tail, all are zero.
+// Computes the six syndromes of a tail: its values at 2^0 to 2^5. Of a codeword, and of no other tail, all are zero.
 ghost use mathlib.Core.Path.{_≡_};
 ghost use mathlib.Core.Bool.{true, false};
 ghost use Prim.Native.Nat.{ℕ, _<_, _≤_};
@@ -8,7 +8,7 @@ ghost use Rattle.field_rules.specs.Field.{power};
 ghost use Rattle.field.specs.Lent.{Powers, Logs};
 ghost use Rattle.tail_rules.specs.Code.{value, syndrome};
 
-// The value of a tail at 2^e, the first byte of highest degree.
+// Evaluates a tail at 2^e, the first byte being of highest degree.
 fn horner(powers: &field::PowerTable, logs: &field::LogTable, t: [u8; 14], e: usize) -> u8
     requires { ⌜ Powers (now powers) ⌝ ∗ ⌜ Logs (now logs) ⌝ ∗ ⌜ e ≤ 255 ⌝ }
     ensures { λ r. ⌜ r ≡ value 0 t (power e) ⌝ }
@@ -22,7 +22,7 @@ fn horner(powers: &field::PowerTable, logs: &field::LogTable, t: [u8; 14], e: us
     v
 }
 
-// The values at 2^0 to 2^5.
+// Computes the syndromes of a tail: its values at 2^0 to 2^5.
 pub fn syndromes_of(powers: &field::PowerTable, logs: &field::LogTable, t: [u8; 14]) -> [u8; 6]
     requires { ⌜ Powers (now powers) ⌝ ∗ ⌜ Logs (now logs) ⌝ }
     ensures { λ r. ⌜ r ≡ tab 6 (syndrome t) ⌝ }
@@ -36,7 +36,7 @@ pub fn syndromes_of(powers: &field::PowerTable, logs: &field::LogTable, t: [u8; 
     out
 }
 
-// Is every syndrome zero?
+// Tells whether every syndrome is zero.
 pub fn all_zero(s: [u8; 6]) -> bool
     ensures { λ r. ⌜ (r ≡ true → (i : ℕ) → i < 6 → getD s i 0 ≡ 0) × (r ≡ false → ¬ ((i : ℕ) → i < 6 → getD s i 0 ≡ 0)) ⌝ }
 {

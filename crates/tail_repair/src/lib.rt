@@ -1,4 +1,4 @@
-// The repair of a tail by value, with the field's tables lent: for `voice_hard` and `voice_candidates`, which repair many tails, and for the calls of `tail`.
+// Repairs a tail by value, with the field's tables lent: for `voice_hard` and `voice_candidates`, which repair many tails, and for the calls of `tail`.
 // What is right is in crate `tail_rules`, specs/Repair.antt: the codeword near the tail, and the number of bytes in which it differs.
 ghost use mathlib.Core.Path.{_≡_};
 ghost use mathlib.Core.List.{[]};
@@ -16,7 +16,7 @@ use tail_places::locate;
 use tail_places::syndromes_of;
 use tail_rules::Repairing;
 
-// In how many bytes do the two differ?
+// Counts the bytes in which the two differ. It goes from the last to the first: the definition counts the rest of a list first.
 fn changed(t: [u8; 14], c: [u8; 14]) -> usize
     ensures { λ r. ⌜ r ≡ wrong [] t c ⌝ }
 {
@@ -37,6 +37,7 @@ pub struct RepairedTail {
     pub tail: [u8; 14],
 }
 
+// Gives the answer of a tail that has no repair: refusal 10, and zeros beside it.
 fn refused() -> RepairedTail
     ensures { λ r. ⌜ (r .answer ≡ answerOf refused) × (r .tail ≡ tailIn refused) ⌝ }
 {
@@ -46,7 +47,7 @@ fn refused() -> RepairedTail
     }
 }
 
-// The repair of a tail with at most six places erased: Berlekamp-Massey and the root search, the system, and the check of all syndromes.
+// Repairs a tail with at most six places erased: by Berlekamp-Massey and the root search, the system, and the check of all syndromes.
 pub fn repair_by(
     powers: &field::PowerTable,
     logs: &field::LogTable,

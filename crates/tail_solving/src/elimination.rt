@@ -1,10 +1,10 @@
-// Gauss-Jordan on the fixed six rows of seven bytes, for a system of which only zero solves the homogeneous one: a pivot is always there.
+// Solves by Gauss-Jordan on the fixed six rows of seven bytes, a system that with zeros on the right has only zero as its solution: a pivot is always there.
 ghost use mathlib.Core.Path.{_≡_};
 ghost use Prim.Native.Nat.{_<_, _≤_};
 ghost use Rattle.field.specs.Lent.{Powers, Logs};
 ghost use Rattle.tail_rules.specs.Steps.{addScaled, scaleBy, ScaledRow, ClearedBy, SwappedRows, PivotAt, Rows, Regular, HasPivot, Eliminated, ColumnOf, Solved};
 
-// a + k b.
+// Adds k times row b to row a.
 fn add_scaled(
     powers: &field::PowerTable,
     logs: &field::LogTable,
@@ -24,7 +24,7 @@ fn add_scaled(
     out
 }
 
-// k a.
+// Multiplies a row by k.
 fn scaled(powers: &field::PowerTable, logs: &field::LogTable, k: u8, a: [u8; 7]) -> [u8; 7]
     requires { ⌜ Powers (now powers) ⌝ ∗ ⌜ Logs (now logs) ⌝ }
     ensures { λ r. ⌜ r ≡ scaleBy k a ⌝ }
@@ -38,7 +38,7 @@ fn scaled(powers: &field::PowerTable, logs: &field::LogTable, k: u8, a: [u8; 7])
     out
 }
 
-// The first row from col on whose entry at col is not 0; count where there is none.
+// Finds the first row from `col` on whose entry at `col` is not 0, or gives `count` where there is none.
 fn pivot(m: [[u8; 7]; 6], col: usize, count: usize) -> usize
     requires { ⌜ col < 6 ⌝ ∗ ⌜ count ≤ 6 ⌝ }
     ensures { λ r. ⌜ PivotAt m col count r ⌝ }
@@ -54,7 +54,7 @@ fn pivot(m: [[u8; 7]; 6], col: usize, count: usize) -> usize
     i
 }
 
-// Rows i and j exchanged.
+// Swaps rows i and j.
 fn swap(m: [[u8; 7]; 6], i: usize, j: usize) -> [[u8; 7]; 6]
     requires { ⌜ i < 6 ⌝ ∗ ⌜ j < 6 ⌝ }
     ensures { λ r. ⌜ SwappedRows m i j r ⌝ }
@@ -67,7 +67,7 @@ fn swap(m: [[u8; 7]; 6], i: usize, j: usize) -> [[u8; 7]; 6]
     out
 }
 
-// Row col scaled so that its entry at col is 1.
+// Divides row `col` by its entry at `col`, which becomes 1.
 fn unit_row(
     powers: &field::PowerTable,
     logs: &field::LogTable,
@@ -84,7 +84,7 @@ fn unit_row(
     out
 }
 
-// Column col cleared in every other row.
+// Clears column `col` in every other row: adds to each a multiple of row `col`.
 fn clear(
     powers: &field::PowerTable,
     logs: &field::LogTable,
@@ -108,7 +108,7 @@ fn clear(
     out
 }
 
-// Column col made a column of the unit matrix.
+// Turns column `col` into a column of the unit matrix; the solutions stay.
 fn eliminated(
     powers: &field::PowerTable,
     logs: &field::LogTable,
@@ -125,7 +125,7 @@ fn eliminated(
     clear(powers, logs, b, col, count)
 }
 
-// The right-hand sides.
+// Collects the right-hand sides of the first `count` rows.
 fn right_sides(m: [[u8; 7]; 6], count: usize) -> [u8; 6]
     requires { ⌜ count ≤ 6 ⌝ }
     ensures { λ r. ⌜ ColumnOf count m r ⌝ }
@@ -140,7 +140,7 @@ fn right_sides(m: [[u8; 7]; 6], count: usize) -> [u8; 6]
     out
 }
 
-// The solution of a regular system of count rows.
+// Solves a regular system of `count` rows: once its columns are those of the unit matrix, the right-hand sides are the solution.
 pub fn solve(
     powers: &field::PowerTable,
     logs: &field::LogTable,

@@ -1,4 +1,4 @@
-// Each program's call: it goes through the input, and prints the last line.
+// Carries out each program's call: goes through the input, and prints the last line where the program has one.
 ghost use mathlib.Core.Path.{_≡_};
 ghost use Prim.Native.Nat.{_+_, _*_, _≤_};
 ghost use Rattle.lines_rules.specs.Slips.{slipsEnd};
@@ -30,7 +30,7 @@ fn print_end(sync: Synchroniser)
     lines::print(lines::end_line(sync.frames(), sync.slips(), sync.pending_bits() as u64));
 }
 
-// The line of the frames, the slips and the net slip.
+// Makes the line of the frames, the slips and the net slip.
 fn slips_end(sync: Synchroniser) -> Line
     requires { ⌜ ValidSynchroniser sync ⌝ }
     ensures { λ r. ⌜ r ≡ slipsEnd (view sync) ⌝ }
@@ -38,7 +38,7 @@ fn slips_end(sync: Synchroniser) -> Line
     lines::slips_end_line(sync.frames(), sync.slips(), sync.net_slip())
 }
 
-// Prints a line for each frame and each gap, and the last line.
+// Prints a line for each frame and each gap, and the last line; gives what was received.
 pub fn list(fd: i32) -> Heard
     ensures { λ h. ⌜ Told h ⌝ }
 {
@@ -49,7 +49,7 @@ pub fn list(fd: i32) -> Heard
     heard
 }
 
-// Prints a line for each frame with a move, and the last line.
+// Prints a line for each frame with a move, and the last line; gives what was received.
 pub fn slips(fd: i32) -> Heard
     ensures { λ h. ⌜ Told h ⌝ }
 {
@@ -60,6 +60,7 @@ pub fn slips(fd: i32) -> Heard
     heard
 }
 
+// Writes the journal, its frames untried or decoded as is wanted, and gives what was received and how many records that made.
 fn record_as(wanted: Wanted, fd: i32, table: &[u8]) -> Recorded
     ensures told { λ r. ⌜ Told (r .heard) ⌝ }
     ensures few { λ r. ⌜ r .records ≤ 2 * r .heard .frames ⌝ }
@@ -80,7 +81,7 @@ pub fn record(fd: i32) -> Recorded
     record_as(Wanted::Records, fd, b"")
 }
 
-// Writes the journal, each frame decoded with the table.
+// Writes the journal, each frame decoded with the table: at most two records a frame.
 pub fn record_decoded(fd: i32, table: &[u8]) -> Recorded
     ensures told { λ r. ⌜ Told (r .heard) ⌝ }
     ensures few { λ r. ⌜ r .records ≤ 2 * r .heard .frames ⌝ }
@@ -88,7 +89,7 @@ pub fn record_decoded(fd: i32, table: &[u8]) -> Recorded
     record_as(Wanted::DecodedRecords, fd, table)
 }
 
-// Prints the speech of each frame, or its refusal, with the gaps, and the last line.
+// Prints the speech of each frame, or its refusal, with the gaps, and the last line; gives how many frames were speech and how many were not.
 pub fn speak(fd: i32, table: &[u8]) -> Spoken
     ensures told { λ r. ⌜ Told (r .heard) ⌝ }
     ensures sum { λ r. ⌜ r .heard .frames ≡ r .accepted + r .refused ⌝ }

@@ -1,4 +1,4 @@
-// What each program makes of a frame: lines, or records, on standard output.
+// Makes of a frame what each program wants: lines, or records, on standard output.
 ghost use Prim.Native.Nat.{_*_, _≤_};
 ghost use Rattle.reception.specs.Receptions.{gives};
 use frame_outcomes::try_frame;
@@ -25,6 +25,7 @@ pub struct Made {
     pub speech: u64,
 }
 
+// Prints the gap before a frame, if there is one, and the frame's line.
 fn list_frame(earlier: Earlier, head: Head) -> Made
     ensures { λ m. ⌜ (m .records ≤ 2) × (m .speech ≤ 1) ⌝ }
 {
@@ -36,6 +37,7 @@ fn list_frame(earlier: Earlier, head: Head) -> Made
     }
 }
 
+// Prints a frame's moves, if it has any.
 fn list_slip(head: Head) -> Made
     ensures { λ m. ⌜ (m .records ≤ 2) × (m .speech ≤ 1) ⌝ }
 {
@@ -46,6 +48,7 @@ fn list_slip(head: Head) -> Made
     }
 }
 
+// Counts the records that a frame made, at most two; it made no line of speech.
 fn wrote(records: u64) -> Made
     requires { ⌜ records ≤ 2 ⌝ }
     ensures { λ m. ⌜ (m .records ≤ 2) × (m .speech ≤ 1) ⌝ }
@@ -78,6 +81,7 @@ fn speak_frame(earlier: Earlier, offset: u64, decoded: Decoded) -> Made
     }
 }
 
+// Makes what is wanted of a frame, and gives how many records and lines of speech that is.
 fn make(wanted: Wanted, earlier: Earlier, head: Head, envelope: &[u8], table: &[u8]) -> Made
     ensures { λ m. ⌜ (m .records ≤ 2) × (m .speech ≤ 1) ⌝ }
 {

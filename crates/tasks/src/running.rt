@@ -16,7 +16,8 @@ pub struct Run {
     pub heard: Heard,
 }
 
-// A proved loop has to end, and nothing says that the input does: the loop counts its turns down, from a number that no run uses up.
+// Goes through a whole input and makes what is wanted of each frame. A proved loop has to end, and nothing says that the input does: the loop counts its
+// turns down, from a number that no run uses up.
 pub(crate) fn every_frame(wanted: Wanted, fd: i32, table: &[u8]) -> Run
     ensures told { λ r. ⌜ Told (r .heard) ⌝ }
     ensures few { λ r. ⌜ r .records ≤ 2 * r .heard .frames ⌝ }

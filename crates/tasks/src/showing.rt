@@ -16,6 +16,7 @@ struct Tally {
     printed: Printed,
 }
 
+// Counts what was printed as a frame or a gap, and goes on; a refused record is not counted, and nothing is printed after it.
 fn counted(p: Printed, what: What) -> Tally
     requires { ⌜ p .records ≡ p .frames + p .gaps ⌝ ∗ ⌜ p .records + 1 < 2 ^ 64 ⌝ }
     ensures sum { λ r. ⌜ r .printed .records ≡ r .printed .frames + r .printed .gaps ⌝ }
@@ -45,7 +46,7 @@ fn counted(p: Printed, what: What) -> Tally
     }
 }
 
-// One record: what the input still holds of it, where it ends within the record.
+// Prints the next record, or the last line where none is left, and says whether to go on. Where the input ends within the record, what it holds of it is shown.
 fn show_one(fd: i32, p: Printed) -> Tally
     requires { ⌜ p .records ≡ p .frames + p .gaps ⌝ ∗ ⌜ p .records + 1 < 2 ^ 64 ⌝ }
     ensures sum { λ r. ⌜ r .printed .records ≡ r .printed .frames + r .printed .gaps ⌝ }
@@ -67,7 +68,8 @@ fn show_one(fd: i32, p: Printed) -> Tally
     counted(p, what)
 }
 
-// The whole journal. A proved loop has to end, and nothing says that the input does: the loop counts its turns down, from a number that no run uses up.
+// Prints the whole journal and gives its counts. A proved loop has to end, and nothing says that the input does: the loop counts its turns down, from a
+// number that no run uses up.
 pub fn show(fd: i32) -> Printed
     ensures { λ r. ⌜ r .records ≡ r .frames + r .gaps ⌝ }
 {

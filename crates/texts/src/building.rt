@@ -1,4 +1,4 @@
-// Text put into a line, from left to right.
+// Puts text into a line, from left to right.
 ghost use mathlib.Core.Path.{_≡_};
 ghost use mathlib.Core.List.{List, [], _∷_, _++_};
 ghost use Prim.Native.Nat.{ℕ, _+_, _≤_};
@@ -9,6 +9,7 @@ ghost use Rattle.texts_rules.specs.Text.{lineOf};
 use crate::Line;
 use bits::amount;
 
+// Gives a line without text.
 pub fn empty() -> Line
     ensures size { λ r. ⌜ r .size ≡ 0 ⌝ }
     ensures text { λ r. ⌜ r ≡ lineOf [] ⌝ }
@@ -19,7 +20,7 @@ pub fn empty() -> Line
     }
 }
 
-// The bytes with a word written over them from `at` on.
+// Writes a word over the bytes from `at` on, and gives them back.
 fn put(bytes: [u8; 128], at: usize, word: &[u8]) -> [u8; 128]
     requires { ⌜ at + length (now word) ≤ 128 ⌝ }
     ensures { λ r. ⌜ r ≡ paste bytes at (now (word .entry)) (length (now (word .entry))) ⌝ }
@@ -33,7 +34,7 @@ fn put(bytes: [u8; 128], at: usize, word: &[u8]) -> [u8; 128]
     out
 }
 
-// The line with a word behind it.
+// Puts a word behind a line's text, where it fits the line's 128 bytes.
 pub fn with_word(line: Line, word: &[u8]) -> Line
     requires { ⌜ line .size + length (now word) ≤ 128 ⌝ }
     ensures size { λ r. ⌜ r .size ≡ line .size + length (now (word .entry)) ⌝ }
@@ -48,7 +49,7 @@ pub fn with_word(line: Line, word: &[u8]) -> Line
     }
 }
 
-// The line with a number's digits behind it.
+// Puts a number's decimal digits behind a line's text: at most twenty.
 fn with_digits(line: Line, n: u64) -> Line
     requires { ⌜ line .size + 20 ≤ 128 ⌝ }
     ensures size { λ r. ⌜ r .size ≤ line .size + 20 ⌝ }
@@ -59,7 +60,7 @@ fn with_digits(line: Line, n: u64) -> Line
     with_word(line, &digits[..k])
 }
 
-// The line with a space and a number behind it.
+// Puts a space and a number behind a line's text.
 pub fn with_number(line: Line, n: u64) -> Line
     requires { ⌜ line .size + 21 ≤ 128 ⌝ }
     ensures size { λ r. ⌜ r .size ≤ line .size + 21 ⌝ }
@@ -69,7 +70,7 @@ pub fn with_number(line: Line, n: u64) -> Line
     with_digits(spaced, n)
 }
 
-// The line with a space and a number with its sign behind it.
+// Puts a space and a number behind a line's text, with a minus sign where it is below zero.
 pub fn with_signed(line: Line, n: i64) -> Line
     requires { ⌜ line .size + 22 ≤ 128 ⌝ }
     ensures size { λ r. ⌜ r .size ≤ line .size + 22 ⌝ }

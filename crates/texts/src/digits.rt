@@ -1,4 +1,4 @@
-// Bytes as hexadecimal digits.
+// Writes bytes as hexadecimal digits.
 ghost use mathlib.Core.Path.{_≡_};
 ghost use Prim.Native.Nat.{_<_};
 ghost use Rattle.bits.specs.Bit.{tab};
@@ -6,7 +6,7 @@ ghost use Rattle.io.specs.Digits.{glyph};
 ghost use Rattle.texts_rules.specs.Text.{hexAt};
 use bits::byte;
 
-// A digit of sixteen, in ASCII.
+// Gives a hexadecimal digit in ASCII: 0 to 9, a to f.
 fn letter(d: u8) -> u8
     requires { ⌜ d < 16 ⌝ }
     ensures { λ r. ⌜ r ≡ glyph d ⌝ }
@@ -14,7 +14,7 @@ fn letter(d: u8) -> u8
     if d < 10 { 48 + d } else { 87 + d }
 }
 
-// Digit i of the payload, the high half of a byte first.
+// Gives hexadecimal digit i of the payload: two a byte, the high half first.
 fn digit_at(payload: [u8; 20], i: usize) -> u8
     requires { ⌜ i < 40 ⌝ }
     ensures { λ r. ⌜ r ≡ hexAt payload i ⌝ }
@@ -26,7 +26,7 @@ fn digit_at(payload: [u8; 20], i: usize) -> u8
     letter(b % 16)
 }
 
-// The payload in 40 digits.
+// Writes the payload in 40 hexadecimal digits.
 pub fn hex_of(payload: [u8; 20]) -> [u8; 40]
     ensures { λ r. ⌜ r ≡ tab 40 (hexAt payload) ⌝ }
 {

@@ -1,9 +1,10 @@
-// A line on standard output or standard error. No contract can say what is written; the line's text is its maker's promise.
+// Writes a line to standard output or standard error. No contract can say what is written; the line's text is its maker's promise.
 ghost use mathlib.Core.Path.{_≡_};
 ghost use mathlib.Core.Bool.{false};
 ghost use Prim.Native.Nat.{_<_};
 use crate::Line;
 
+// Writes the first `size` of the bytes to an open file, and answers whether all of them were taken; where there are not so many it writes nothing.
 fn write_first(fd: i32, bytes: [u8; 128], size: usize) -> bool
     ensures { λ r. ⌜ (128 < size → r ≡ false) ⌝ }
 {
@@ -13,7 +14,7 @@ fn write_first(fd: i32, bytes: [u8; 128], size: usize) -> bool
     io::write_all(fd, &bytes[..size])
 }
 
-// Writes the line, and answers whether all of it was taken: never of a line that says to be longer than its bytes.
+// Writes the line to standard output, and answers whether all of it was taken: never of a line that says to be longer than its bytes.
 pub fn print(line: Line) -> bool
     ensures { λ r. ⌜ (128 < line .size → r ≡ false) ⌝ }
 {
@@ -21,7 +22,7 @@ pub fn print(line: Line) -> bool
     write_first(1, bytes, line.size)
 }
 
-// The same on standard error.
+// Writes the line to standard error, and answers as `print` does.
 pub fn print_error(line: Line) -> bool
     ensures { λ r. ⌜ (128 < line .size → r ≡ false) ⌝ }
 {

@@ -1,5 +1,5 @@
-// The candidates of soft decoding, one after the other: the word, then the word with its tail repaired, with 0, 2, 4 and 6 places erased. What is right
-// is in crate `voice_rules`, specs/Soft.antt. Between crates: the call asks for what `voice_soft` has tested and made.
+// Tries the candidates of soft decoding one after the other: the word, then the word with its tail repaired, with 0, 2, 4 and 6 places erased. What is
+// right is in crate `voice_rules`, specs/Soft.antt. Between crates: the call asks for what `voice_soft` has tested and made.
 //
 // The words stand in a row, the received one first (specs/Row.antt). A repair writes the next one; where it fails, the repair after it writes over it. So
 // the words before the one that is tried are the candidates that were there before.

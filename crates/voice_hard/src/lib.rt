@@ -1,4 +1,4 @@
-// The hard stages in their order. What is read from the word (its coded bits, the inverse filter's input, whether its mode is valid) is read once and
+// Tries the hard stages in their order. What is read from the word (its coded bits, the inverse filter's input, whether its mode is valid) is read once and
 // lent; one path search serves (c) and (d).
 ghost use mathlib.Core.Path.{_≡_};
 ghost use mathlib.Core.List.{[], _∷_};
@@ -24,7 +24,7 @@ use voice_words::mode_apart;
 use voice_words::tail_bytes;
 use voice_words::with_last;
 
-// (b): repairs the tail without erasures.
+// Tries (b): repairs the tail without erasures, and checks the word with the tail that this gives.
 fn stage_b(
     powers: &field::PowerTable,
     logs: &field::LogTable,
@@ -51,7 +51,7 @@ fn stage_b(
     )
 }
 
-// (c) and (d): where the mode is valid the search comes first, else only after joint with the inverse; it is done once.
+// Tries (c) and (d): where the mode is valid the search comes first, else only after joint with the inverse; it is done once.
 fn searching(
     powers: &field::PowerTable,
     logs: &field::LogTable,
@@ -88,7 +88,7 @@ fn searching(
     both_flags(powers, logs, table, word, received, &found)
 }
 
-// (d) where the mode is not valid: refused where it is too far off, else joint with the inverse, then with the path search.
+// Tries (d) where the mode is not valid: gives silence where that is too far off, else tries joint with the inverse, then with the path search.
 fn joint_first(
     powers: &field::PowerTable,
     logs: &field::LogTable,

@@ -1,5 +1,5 @@
-// The path search over the 256 states of the code, hard and weighted: one search, whose costs are exact. Its step is in the crate voice_path_steps. What it finds is defined in
-// the crate voice_path_rules (specs/Path.antt), and so is what that means (specs/Nearest.antt).
+// Searches the path over the 256 states of the code, hard and weighted: one search, whose costs are exact. Its step is in the crate `voice_path_steps`. What it
+// finds is defined in the crate `voice_path_rules` (specs/Path.antt), and so is what that means (specs/Nearest.antt).
 ghost use mathlib.Core.Path.{_≡_};
 ghost use Prim.Native.Nat.{ℕ, _+_, _*_, _<_};
 ghost use lib.ListN.{getD};
@@ -12,7 +12,7 @@ use voice_path_rules::Seen;
 use voice_path_steps::parities;
 use voice_path_steps::step;
 
-// Eight bits as a byte, the lowest first.
+// Packs eight bits into a byte, the first lowest.
 fn octet(b0: u8, b1: u8, b2: u8, b3: u8, b4: u8, b5: u8, b6: u8, b7: u8) -> u8
     requires { ⌜ (b0 < 2) × (b1 < 2) × (b2 < 2) × (b3 < 2) × (b4 < 2) × (b5 < 2) × (b6 < 2) × (b7 < 2) ⌝ }
     ensures { λ r. ⌜ r ≡ b0 + 2 * b1 + 4 * b2 + 8 * b3 + 16 * b4 + 32 * b5 + 64 * b6 + 128 * b7 ⌝ }
@@ -20,7 +20,7 @@ fn octet(b0: u8, b1: u8, b2: u8, b3: u8, b4: u8, b5: u8, b6: u8, b7: u8) -> u8
     b0 + 2 * b1 + 4 * b2 + 8 * b3 + 16 * b4 + 32 * b5 + 64 * b6 + 128 * b7
 }
 
-// Eight choices to a byte, the lowest bit first.
+// Packs the choices of the 256 states into a row, eight to a byte, the first lowest.
 fn pack(chosen: [u8; 256]) -> [u8; 32]
     requires { ⌜ ((s : ℕ) → s < 256 → getD chosen s 0 < 2) ⌝ }
     ensures { λ r. ⌜ ((s : ℕ) → s < 256 → bitLo r s ≡ getD chosen s 0) ⌝ }
@@ -41,7 +41,7 @@ fn pack(chosen: [u8; 256]) -> [u8; 32]
     row
 }
 
-// What step t has seen: nothing at the even entry where that is 255.
+// Gives what step t has seen: nothing, of weight 0, at the even entry where that is 255.
 fn observe(table: &[u8], received: &[u8; 176], weights: &[u8; 176], t: usize) -> Seen
     requires { ⌜ t < 94 ⌝ }
     requires { ⌜ Admitted (now table) ⌝ }
@@ -63,7 +63,7 @@ fn observe(table: &[u8], received: &[u8; 176], weights: &[u8; 176], t: usize) ->
     }
 }
 
-// Bit s of a row.
+// Reads bit s of a row: 1 where state s was reached from the prior state of 128 or more.
 fn survivor_bit(row: [u8; 32], s: usize) -> usize
     requires { ⌜ s < 256 ⌝ }
     ensures { λ r. ⌜ (r ≡ bitLo row s) × (r < 2) ⌝ }
@@ -71,7 +71,7 @@ fn survivor_bit(row: [u8; 32], s: usize) -> usize
     bits::wide(row[s / 8] >> (s % 8)) % 2
 }
 
-// The bits of the path, read backwards from state 0.
+// Reads the bits of the path backwards from state 0, in which it ends.
 fn trace(survivors: [[u8; 32]; 94]) -> [u8; 94]
     ensures { λ r. ⌜ r ≡ walk (kept survivors) 94 0 ⌝ }
 {
@@ -87,7 +87,8 @@ fn trace(survivors: [[u8; 32]; 94]) -> [u8; 94]
     found
 }
 
-// The weighted search: a coded bit that disagrees costs its weight. Rows are filled forwards, one bit a state, and read backwards.
+// Searches with weights: a coded bit that disagrees costs its weight. Rows are filled forwards, one bit a state, and read backwards. 65,536, more than any
+// path costs, is the cost of starting elsewhere than in state 0.
 pub fn search_by(table: &[u8], received: &[u8; 176], weights: &[u8; 176]) -> [u8; 94]
     requires { ⌜ Admitted (now table) ⌝ }
     requires { ⌜ Bits (now received) ⌝ }
@@ -107,7 +108,7 @@ pub fn search_by(table: &[u8], received: &[u8; 176], weights: &[u8; 176]) -> [u8
     trace(survivors)
 }
 
-// The hard search: each coded bit counts one.
+// Searches with each coded bit counting one: the hard search.
 pub fn search(table: &[u8], received: &[u8; 176]) -> [u8; 94]
     requires { ⌜ Admitted (now table) ⌝ }
     requires { ⌜ Bits (now received) ⌝ }

@@ -1,5 +1,5 @@
-// One step of the path search, over the costs of the 256 states: it looks at pairs of states, since the two ways into 2 p and into 2 p + 1 start from the same two prior
-// states. What a step is to find is defined in the crate voice_path_rules (specs/Path.antt).
+// Takes one step of the path search, over the costs of the 256 states: it looks at pairs of states, since the two ways into 2 p and into 2 p + 1 start from the
+// same two prior states. What a step is to find is defined in the crate `voice_path_rules` (specs/Path.antt).
 ghost use mathlib.Core.Path.{_≡_};
 ghost use mathlib.Core.Bool.{cond};
 ghost use Prim.Native.Nat.{ℕ, _*_, _^_, _<_, _≤_};
@@ -26,28 +26,28 @@ pub struct Stepped {
     pub chosen: [u8; 256],
 }
 
-// One where x is the less.
+// Gives 1 where x is less than y, else 0.
 fn below(x: u32, y: u32) -> u8
     ensures { λ r. ⌜ r ≡ cond (ltb x y) 1 0 ⌝ }
 {
     if x < y { 1 } else { 0 }
 }
 
-// The weight w, unless two bits are the same.
+// Gives the weight w where two bits differ, else 0.
 fn unless_same(x: u32, y: u32, w: u32) -> u32
     ensures { λ r. ⌜ r ≡ disagree w x y ⌝ }
 {
     if x == y { 0 } else { w }
 }
 
-// Both parities of a register: under the odd entries' mask, and twice the one under the even entries'.
+// Puts both parities of a register into one number: the one under the odd entries' mask, and twice the one under the even entries'.
 fn parity_pair(register: u32) -> u8
     ensures { λ r. ⌜ r ≡ pairOf register ⌝ }
 {
     bits::parity(register & ODD_MASK) + 2 * bits::parity(register & EVEN_MASK)
 }
 
-// The parities of the registers 2 p, for each prior state p below 128.
+// Makes the parities of the registers 2 p, for each prior state p below 128: once a search, for all its steps.
 pub fn parities() -> [u8; 128]
     ensures { λ r. ⌜ r ≡ tab 128 (λ p. pairOf (2 * p)) ⌝ }
 {
@@ -58,7 +58,7 @@ pub fn parities() -> [u8; 128]
     pairs
 }
 
-// What the register 2 prior costs.
+// Gives what the register 2 prior costs: the weight of each of its two bits that disagrees with what was seen.
 fn differ(pairs: &[u8; 128], prior: usize, seen: Seen) -> u32
     requires { ⌜ now pairs ≡ tab 128 (λ p. pairOf (2 * p)) ⌝ ∗ ⌜ prior < 128 ⌝ ∗ ⌜ Weighed seen ⌝ }
     ensures { λ r. ⌜ r ≡ weigh seen (2 * prior) ⌝ }
@@ -67,7 +67,8 @@ fn differ(pairs: &[u8; 128], prior: usize, seen: Seen) -> u32
     unless_same(pair % 2, seen.a, seen.wa) + unless_same(pair / 2, seen.b, seen.wb)
 }
 
-// The two ways into each of the states 2 * prior and 2 * prior + 1, from the costs of the prior states below and above 128.
+// Takes the cheaper of the two ways into each of the states 2 prior and 2 prior + 1: from the prior state below 128 (`left`) or from the one 128 above it
+// (`right`). At equal cost the one below wins.
 fn butterfly(left: u32, right: u32, d: u32, e: u32) -> Pair
     requires { ⌜ (left ≤ 2 ^ 31) × (right ≤ 2 ^ 31) × (d ≤ 510) × (e ≤ 510) ⌝ }
     ensures { λ r. ⌜ IsPair left right d e r ⌝ }
@@ -80,7 +81,8 @@ fn butterfly(left: u32, right: u32, d: u32, e: u32) -> Pair
     }
 }
 
-// One step, from each of the 128 pairs of prior states.
+// Takes one step from each of the 128 pairs of prior states. A register whose first or last bit alone is another has both parities the other way, and costs
+// the rest of the weights.
 pub fn step(pairs: &[u8; 128], costs: [u32; 256], seen: Seen) -> Stepped
     requires { ⌜ Weighed seen ⌝ }
     requires { ⌜ ((s : ℕ) → s < 256 → getD costs s 0 ≤ 2 ^ 31) ⌝ }

@@ -1,5 +1,5 @@
 // The voice frame's decoding as definitions: the encoder's word, the candidate check, each attempt of each stage as a trial, and what the
-// public calls of `voice_frame` answer. There is no code here but the types of those answers; the theorems stand at the end.
+// public calls of `voice_frame` and `voice_soft` answer. There is no code here but the types of those answers; the theorems stand at the end.
 use bits::Refusal;
 ghost use Rattle.voice_rules.specs.LimitTable.{LimitTable};
 ghost use Rattle.voice_rules.specs.Nearest.{NearestTried};
@@ -15,7 +15,7 @@ pub use limits::MOST_OUTER_BYTES;
 pub use limits::MOST_SOFT_DISTANCE;
 pub use limits::MOST_TOTAL;
 
-// Document 01's stages: (a) to (d) are the hard ones.
+// Names the stage that accepts: (a) to (d) are document 01's hard ones.
 pub enum Stage {
     StageA,
     StageB,
@@ -24,7 +24,7 @@ pub enum Stage {
     Soft,
 }
 
-// What a trial tests.
+// Names what a trial tests, in the order of document 02's list (A2).
 pub enum Test {
     ModeBits,
     Repair,

@@ -16,7 +16,7 @@ pub struct Speech {
     pub payload: [u8; 20],
 }
 
-// Gives silence.
+// Gives silence: nothing is accepted.
 pub fn silent() -> Speech
     ensures { λ r. ⌜ r ≡ silence ⌝ }
 {
@@ -38,7 +38,7 @@ pub fn succeeded(answer: Repairing) -> bool
     }
 }
 
-// Gives the answer of a decoding that is refused.
+// Gives the answer of a decoding that is refused: the refusal, and a payload of zeros.
 pub fn refused(refusal: Refusal) -> Decoded
     ensures { λ r. ⌜ r ≡ refusedBy refusal ⌝ }
 {

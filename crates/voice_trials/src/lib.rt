@@ -1,4 +1,4 @@
-// The attempts of the hard stages: (a) and (c) on the word itself, (b) on the word with its tail repaired, (d) on the word that the input makes.
+// Makes the attempts of the hard stages: (a) and (c) on the word itself, (b) on the word with its tail repaired, (d) on the word that the input makes.
 ghost use mathlib.Core.Path.{_≡_};
 ghost use mathlib.Core.List.{[], _∷_};
 ghost use Prim.Native.Nat.{_-_};
@@ -26,7 +26,7 @@ use voice_words::bytes_apart;
 use voice_words::mode_apart;
 use voice_words::together;
 
-// (a) and (c): checks the word with an input, where its mode is valid.
+// Tries (a) or (c): checks the word with an input, where its mode is valid.
 pub fn plain(
     powers: &field::PowerTable,
     logs: &field::LogTable,
@@ -56,7 +56,7 @@ pub fn plain(
     )
 }
 
-// (b): checks the word with its tail repaired, with what the inverse filter and then with what the path search finds in it, measured from the
+// Tries (b): checks the word with its tail repaired, with what the inverse filter and then with what the path search finds in it, measured from the
 // received word.
 pub fn repaired(
     powers: &field::PowerTable,
@@ -128,7 +128,7 @@ fn joint_valid(word: &[u8; 42], c: &[u8; 42], flag: u8) -> bool
     true
 }
 
-// Checks the word that the input makes with one flag.
+// Checks the word that the input makes with one flag, and then its corrected bits in all against the limit of joint.
 fn joint(
     powers: &field::PowerTable,
     logs: &field::LogTable,

@@ -1,4 +1,4 @@
-// Distances: each counts ones in an xor, or bytes that differ.
+// Measures distances: counts ones in an xor, or bytes that differ.
 ghost use mathlib.Core.Path.{_≡_};
 ghost use Prim.Native.Nat.{_+_, _≤_};
 ghost use lib.Bits.{bitXor};

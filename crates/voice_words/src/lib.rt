@@ -37,7 +37,7 @@ pub fn tail_bytes(word: &[u8]) -> [u8; 14]
     last
 }
 
-// Gives the word with other last fourteen bytes.
+// Gives the word with another tail: its last fourteen bytes replaced.
 pub fn with_last(word: [u8; 42], last: [u8; 14]) -> [u8; 42]
     ensures { λ r. ⌜ r ≡ take 28 word ++ last ⌝ }
 {
