@@ -3,8 +3,9 @@
 -- In this order: document 01's table 'Numbered refusals', each of its lines once, as a test; what it is to refuse by tests in an order; the number
 -- of each kind of answer; what each call refuses; and `Demand1`, a field a call: what its contract promises refuses so.
 -- A field speaks of exactly the definitions that the call's contract cites: coding::descramble ensures that it answers `sizeAnswer` and leaves
--- `afterDescramble`, Synchroniser::push ensures `PushedBy`. And the crates demand_coding, demand_speech and demand_stream make each call and promise the same of what it gave and left.
--- Where a name is from, the lines below say: Rattle.coding_rules.specs.Calls is the file crates/coding/specs/Calls.antt, and what lies under `declared`
+-- `afterDescramble`, Synchroniser::push ensures `PushedBy`. And the crates demand_coding, demand_speech and demand_stream make each call and promise the
+-- same of what it gave and left.
+-- Where a name is from, the lines below say: Rattle.coding_rules.specs.Calls is the file crates/coding_rules/specs/Calls.antt, and what lies under `declared`
 -- is a type of the crate's src/.
 -- Inputs are not restricted: no call has a `requires` but its state's invariant, which every call that hands out a state ensures. What is lent
 -- only to be read no call can write. That a call ends is said nowhere: a function that may not end is not proved at all.
@@ -283,7 +284,7 @@ pub record Demand1 : Type 0 where
   pub repair-word-erasures : (word places : List ℕ) → WordRefuses word places (wordAnswer places word) (wordLeaves places word)
   pub repair-word : (word : List ℕ) → WordRefuses word [] (wordAnswer [] word) (wordLeaves [] word)
   pub encode-word : (word : List ℕ) → MakingRefuses word (making.encodeAnswer word) (making.encodeLeaves word)
-  -- voice_frame and soft_frame
+  -- voice_frame and voice_soft
   pub encode : (table payload : List ℕ) (alternate : Bool) (envelope : List ℕ)
       → EncodingRefuses table payload envelope (encodeAnswer table payload envelope) (encodeLeaves table payload alternate envelope)
   pub decode : (table envelope : List ℕ) → DecodingRefuses table envelope (decodedWord table) (decodeAnswer table envelope)

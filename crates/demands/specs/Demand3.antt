@@ -1,6 +1,6 @@
 -- Demand 3: silence before a lock, exact frames after it, and their offsets; then document 01's other sentences on the synchroniser.
 -- It speaks of any history of calls: `push`, `push_soft` and the feeds, refused ones among them, each on the state that the one before handed
--- back and with the answer that it promises. A feed ends with the first push that sends frames (`sync::feed_is_pushes`), so what a push sends is
+-- back and with the answer that it promises. A feed ends with the first push that sends frames (`sync_call_rules::feed_is_pushes`), so what a push sends is
 -- handed out by the call that makes it.
 -- Assumes nothing.
 use mathlib.Core.Bool.{true, false}

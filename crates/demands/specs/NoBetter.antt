@@ -11,7 +11,7 @@ use Rattle.voice_path_rules.specs.Nearest.{NearestPath}
 use Rattle.voice_rules.specs.Nearest.{NearestTried}
 
 pub record NoBetterPath : Type 0 where
-  -- of the calls `voice_path::search_by` and `voice_path::search`: for every admitted table, all received bits and all weights (crates/path_rules/specs/Nearest.antt)
+  -- of the calls `voice_path::search_by` and `voice_path::search`: for every admitted table, all received bits and all weights (crates/voice_path_rules/specs/Nearest.antt)
   pub searches : NearestPath
   -- of a decoding: what it tries after a search are these nearest bits, hard in stages (b), (c) and (d), and soft (crates/voice_rules/specs/Nearest.antt)
   pub decoding : NearestTried

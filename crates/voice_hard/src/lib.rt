@@ -13,6 +13,7 @@ ghost use Rattle.voice_rules.specs.Hard.{decodedWord};
 ghost use Rattle.voice_rules.specs.Trial.{passing};
 ghost use Rattle.voice_speech.specs.Heard.{either, told, saidB, saidC, saidD};
 use voice_check::mode_valid;
+use voice_rules::MOST_MODE_BITS;
 use voice_rules::Stage;
 use voice_speech::Speech;
 use voice_speech::silent;
@@ -100,7 +101,7 @@ fn joint_first(
     requires { ⌜ Powers (now powers) ⌝ ∗ ⌜ Logs (now logs) ⌝ ∗ ⌜ Admitted (now table) ⌝ ∗ ⌜ (now x ≡ inverted (now table) (coded (now word))) × Input (now x) ⌝ ∗ ⌜ now received ≡ coded (now word) ⌝ }
     ensures { λ r. ⌜ r ≡ saidD (now (table .entry)) (now (word .entry)) ⌝ }
 {
-    if mode_apart(word, word[33] % 2) > 2 {
+    if mode_apart(word, word[33] % 2) > MOST_MODE_BITS {
         return silent();
     }
     let d = both_flags(powers, logs, table, word, received, x);

@@ -1,4 +1,4 @@
--- `tail::lent::copied` meets its contract.
+-- `tail_lent::copied` meets its contract.
 -- Assumes nothing.
 use mathlib.Core.Path.{_≡_, refl, sym, _∙_}
 use Prim.Native.Nat.{ℕ, _-_, _<_, _≤_}

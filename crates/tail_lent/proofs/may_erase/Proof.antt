@@ -1,4 +1,4 @@
--- `tail::lent::may_erase` meets its contract.
+-- `tail_lent::may_erase` meets its contract.
 -- Assumes nothing.
 use mathlib.Core.Path.{_≡_, refl, sym, _∙_}
 use Prim.Native.Nat.{_-_, _≤_}

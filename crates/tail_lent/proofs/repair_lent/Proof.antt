@@ -1,4 +1,4 @@
--- `tail::lent::repair_lent` meets its contract: the copy is repaired, and written back only where a codeword was found.
+-- `tail_lent::repair_lent` meets its contract: the copy is repaired, and written back only where a codeword was found.
 -- Assumes nothing.
 use mathlib.Core.List.{List}
 use mathlib.Core.Path.{sym, ap, _∙_}
