@@ -6,6 +6,7 @@ use mathlib.Core.List.{List, [], _∷_, _++_}
 use mathlib.Core.Path.{_≡_}
 use Prim.Native.Nat.{ℕ, _+_, _-_, _≤_}
 use lib.Dec.{ltb, leb}
+use Rattle.bits.specs.Sizes.{frameBits}
 use Rattle.journal_rules.specs.declared.Figures.{Figures}
 use Rattle.journal_rules.specs.declared.Body.{Body}
 use Rattle.journal_rules.specs.declared.Body.the-variants.{Frame, Gap}
@@ -32,12 +33,12 @@ pieceOf f = record { entry = entryAt (f .place) (Frame (f .figures)); envelope =
 
 -- the gap from an earlier frame's end up to the offset `next`
 abbrev pub gapAfter : ℕ → ℕ → Entry
-gapAfter o next = entryAt (o + 384) (Gap (next - (o + 384)))
+gapAfter o next = entryAt (o + frameBits) (Gap (next - (o + frameBits)))
 
 -- the gap before a frame at the offset `next`; before the first frame there is none
 abbrev pub gapTo : Earlier → ℕ → Between
 gapTo Nothing next = NoGap
-gapTo (At o) next = cond (ltb (o + 384) next) (OneGap (gapAfter o next)) NoGap
+gapTo (At o) next = cond (ltb (o + frameBits) next) (OneGap (gapAfter o next)) NoGap
 
 -- it as entries: one, with no envelope, or none
 abbrev pub gapPieces : Between → List Piece
@@ -58,7 +59,7 @@ piecesOf fs = piecesFrom Nothing fs
 -- each offset is at least 384 past the one before
 abbrev pub Spaced : ℕ → List Framed → Type 0
 Spaced o [] = Unit {0}
-Spaced o (f ∷ fs) = (o + 384 ≤ f .place) × Spaced (f .place) fs
+Spaced o (f ∷ fs) = (o + frameBits ≤ f .place) × Spaced (f .place) fs
 
 -- the offset of the last frame
 abbrev pub lastOf : ℕ → List Framed → ℕ

@@ -3,9 +3,10 @@
 use mathlib.Core.Bool.{Bool, true, false, cond, _&&_}
 use mathlib.Core.List.{List, _∷_, _++_}
 use mathlib.Core.Path.{_≡_}
-use Prim.Native.Nat.{ℕ, _+_, _^_}
+use Prim.Native.Nat.{ℕ, _+_}
 use lib.Dec.{leb, eqb}
 use lib.ListN.{length, replicate}
+use Rattle.bits.specs.Sizes.{frameBits, mostOffset}
 use Rattle.bits.specs.BigEndian.{bigEndian}
 use Rattle.bits.specs.declared.Refusal.the-variants.{Size, Record}
 use Rattle.bits.specs.declared.Writing.{Writing}
@@ -51,7 +52,7 @@ mayCorrect RefusedFrame n = eqb n 0
 
 -- how many bits of the clock an entry covers
 abbrev pub span : Body → ℕ
-span (Frame f) = 384
+span (Frame f) = frameBits
 span (Gap n) = n
 
 abbrev pub endOf : Entry → ℕ
@@ -64,7 +65,7 @@ fair (Gap n) = leb 1 n
 
 -- and "Record ends stay at or below 2^42"
 abbrev pub allowed : Entry → Bool
-allowed e = fair (e .body) && leb (endOf e) (2 ^ 42)
+allowed e = fair (e .body) && leb (endOf e) mostOffset
 
 -- "5 size: envelope not 48": a gap has none
 abbrev pub sizeFits : Body → ℕ → Bool

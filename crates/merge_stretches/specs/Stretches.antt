@@ -1,7 +1,8 @@
 -- How many dibits of two streams are fed at once, and how far a stream that was fed is settled.
 -- Assumes nothing.
 use mathlib.Core.List.{List}
-use Prim.Native.Nat.{ℕ, zero, suc, _-_, _^_, min, max}
+use Prim.Native.Nat.{ℕ, zero, suc, _-_, min, max}
+use Rattle.sync_rules.specs.Sizes.{mostDibits}
 use Rattle.merger_rules.specs.declared.Clock.{Clock}
 use Rattle.merger_rules.specs.declared.Clock.the-variants.{Absent, At}
 use Rattle.sync_steps.specs.declared.Push.{Push}
@@ -13,7 +14,7 @@ use Rattle.sync_rules.specs.Pushes.{quiet}
 -- how many dibits can follow of which none searches, sends or is refused: those that are quiet, as far as 2^40 are not passed
 unfoldable pub calm : State → ℕ
 unfolding quiet
-calm m = min (quiet m) (2 ^ 40 - m .figures .taken)
+calm m = min (quiet m) (mostDibits - m .figures .taken)
 
 -- the least of four numbers, or one
 unfoldable pub atOnce : (p q a b : ℕ) → ℕ

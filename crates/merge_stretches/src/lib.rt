@@ -2,11 +2,13 @@
 // a stream that was fed is settled.
 ghost use mathlib.Core.Path.{_≡_};
 ghost use mathlib.Core.List.{List};
-ghost use Prim.Native.Nat.{ℕ, _-_, _^_, _≤_, min, max};
+ghost use Prim.Native.Nat.{ℕ, _-_, _≤_, min, max};
+ghost use Rattle.sync_rules.specs.Sizes.{mostDibits};
 ghost use Rattle.sync_numbers.specs.View.{viewOf};
 ghost use Rattle.merge_stretches.specs.Stretches.{calm, stretchOf, settledBy};
 ghost use Rattle.merge_stretches.specs.Statements.{calmRule, stretchRule};
 use merger_rules::Clock;
+use sync_rules::MOST_DIBITS;
 use sync_steps::Into;
 use sync_steps::Numbers;
 use sync_steps::Push;
@@ -29,12 +31,12 @@ fn at_least_one(n: usize) -> usize
 
 // How many dibits a stream still takes that has taken so many.
 fn untaken(taken: u64) -> usize
-    ensures { λ r. ⌜ r ≡ 2 ^ 40 - taken ⌝ }
+    ensures { λ r. ⌜ r ≡ mostDibits - taken ⌝ }
 {
-    if 1099511627776 < taken {
+    if MOST_DIBITS < taken {
         return 0;
     }
-    (1099511627776 - taken) as usize
+    (MOST_DIBITS - taken) as usize
 }
 
 // How many dibits can follow of which none searches, sends or is refused, whatever stands in the rings.

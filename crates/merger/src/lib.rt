@@ -8,6 +8,7 @@ ghost use mathlib.Core.Bool.{cond};
 ghost use mathlib.Core.List.{[]};
 ghost use Rattle.merger_rules.specs.Merging.{heldOf, view, pushOf, releaseOf};
 ghost use Rattle.merger.specs.States.{viewOf, ValidMerger, PushGave, ReleaseGave};
+use bits::MOST_OFFSET;
 use bits::Refusal;
 pub use merger_rules::Choice;
 pub use merger_rules::Clock;
@@ -79,7 +80,7 @@ impl Merger {
                 merger: self,
             };
         }
-        if 4398046511104 < offset {
+        if MOST_OFFSET < offset {
             return AfterPush {
                 answer: Keeping::Refused(Refusal::Offset),
                 merger: self,

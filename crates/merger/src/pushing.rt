@@ -1,7 +1,8 @@
 // A frame that is neither refused nor late: into the position that it belongs to, or into a new one.
 ghost use mathlib.Core.Path.{_≡_};
-ghost use Prim.Native.Nat.{_^_, _≤_, _<_};
+ghost use Prim.Native.Nat.{_≤_, _<_};
 ghost use lib.ListN.{take, getD};
+ghost use Rattle.bits.specs.Sizes.{mostOffset};
 ghost use Rattle.merger_rules.specs.Merging.{noPosition, joinOf, openOf, putOf};
 ghost use Rattle.merger.specs.States.{viewOf, ValidMerger, PushGave};
 ghost use Rattle.merger_rules.specs.States.{IsNear, Nowhere, belowOf};
@@ -18,7 +19,7 @@ use merger_steps::with_position;
 
 // The frame belongs to the position at a place.
 pub(crate) fn join(m: Merger, at: usize, stream: usize, h: Held) -> AfterPush
-    requires { ⌜ ValidMerger m ⌝ ∗ ⌜ at < m .n ⌝ ∗ ⌜ IsNear (h .figures .offset) (getD (m .positions) at noPosition .key) ⌝ ∗ ⌜ h .figures .offset ≤ 2 ^ 42 ⌝ }
+    requires { ⌜ ValidMerger m ⌝ ∗ ⌜ at < m .n ⌝ ∗ ⌜ IsNear (h .figures .offset) (getD (m .positions) at noPosition .key) ⌝ ∗ ⌜ h .figures .offset ≤ mostOffset ⌝ }
     ensures { λ r. ⌜ PushGave m (joinOf stream h (viewOf m) at) r ⌝ }
 {
     let positions = m.positions;
@@ -46,7 +47,7 @@ pub(crate) fn join(m: Merger, at: usize, stream: usize, h: Held) -> AfterPush
 
 // The frame belongs to none: a new position at its place in the order.
 pub(crate) fn open(m: Merger, at: usize, stream: usize, h: Held) -> AfterPush
-    requires { ⌜ ValidMerger m ⌝ ∗ ⌜ at ≡ belowOf (h .figures .offset) (take (m .n) (m .positions)) ⌝ ∗ ⌜ Nowhere (h .figures .offset) (take (m .n) (m .positions)) ⌝ ∗ ⌜ at ≤ m .n ⌝ ∗ ⌜ h .figures .offset ≤ 2 ^ 42 ⌝ }
+    requires { ⌜ ValidMerger m ⌝ ∗ ⌜ at ≡ belowOf (h .figures .offset) (take (m .n) (m .positions)) ⌝ ∗ ⌜ Nowhere (h .figures .offset) (take (m .n) (m .positions)) ⌝ ∗ ⌜ at ≤ m .n ⌝ ∗ ⌜ h .figures .offset ≤ mostOffset ⌝ }
     ensures { λ r. ⌜ PushGave m (openOf stream h (viewOf m) at) r ⌝ }
 {
     let n = m.n;
@@ -73,7 +74,7 @@ pub(crate) fn open(m: Merger, at: usize, stream: usize, h: Held) -> AfterPush
 
 // One search serves for both: the first position that does not lie below the frame is its own, or the one that a new position goes before.
 pub(crate) fn put(m: Merger, stream: usize, h: Held) -> AfterPush
-    requires { ⌜ ValidMerger m ⌝ ∗ ⌜ h .figures .offset ≤ 2 ^ 42 ⌝ }
+    requires { ⌜ ValidMerger m ⌝ ∗ ⌜ h .figures .offset ≤ mostOffset ⌝ }
     ensures { λ r. ⌜ PushGave m (putOf stream h (viewOf m)) r ⌝ }
 {
     let n = m.n;

@@ -1,9 +1,10 @@
 -- The merger (frame.rs `Merger`; document 01, "Synchroniser and merger"): what each call answers and leaves. Assumes nothing.
 use mathlib.Core.Bool.{Bool, true, false, cond, not, _&&_, _||_}
 use mathlib.Core.List.{List, [], _∷_, _++_}
-use Prim.Native.Nat.{ℕ, zero, suc, _+_, _-_, _*_, _/_, _^_, max}
+use Prim.Native.Nat.{ℕ, zero, suc, _+_, _-_, _*_, _/_, max}
 use lib.Dec.{ltb, leb}
 use lib.ListN.{length, getD, take, drop, set}
+use Rattle.bits.specs.Sizes.{frameBits, mostOffset}
 use Rattle.bits.specs.declared.Refusal.the-variants.{Stream, Offset, Positions}
 use Rattle.sync_rules.specs.declared.Head.{Head}
 use Rattle.merger_rules.specs.declared.Clock.{Clock}
@@ -39,7 +40,7 @@ heldOf f n b = record { figures = f; number = n; check = b }
 -- "offset + 191 < released + 384"
 abbrev pub isLate : Clock → ℕ → Bool
 isLate Absent o = false
-isLate (At r) o = ltb (o + 191) (r + 384)
+isLate (At r) o = ltb (o + 191) (r + frameBits)
 
 -- the two lie at most 191 apart: the same frame
 abbrev pub isNear : ℕ → ℕ → Bool
@@ -114,7 +115,7 @@ putOf s h v =
 abbrev pub pushOf : ℕ → Held → View → PushStep
 pushOf s h v =
     cond (ltb 1 s) (pushStep (Refused Stream) v)
-    (cond (ltb (2 ^ 42) (h .figures .offset)) (pushStep (Refused Offset) v)
+    (cond (ltb mostOffset (h .figures .offset)) (pushStep (Refused Offset) v)
     (cond (isLate (v .last) (h .figures .offset)) (pushStep Late v)
     (putOf s h v)))
 
@@ -141,12 +142,12 @@ choiceOf p = chooseOf (p .primary) (p .alternate)
 
 -- a distance on the grid: the nearest multiple of 384, at least one
 abbrev pub steps : ℕ → ℕ
-steps d = max 1 ((d + 192) / 384) * 384
+steps d = max 1 ((d + 192) / frameBits) * frameBits
 
 -- a frame less than 16 frames after the last release goes to its grid
 abbrev pub snapped : Clock → ℕ → ℕ
 snapped Absent o = o
-snapped (At l) o = cond (ltb l o && ltb (o - l) (16 * 384)) (l + steps (o - l)) o
+snapped (At l) o = cond (ltb l o && ltb (o - l) (16 * frameBits)) (l + steps (o - l)) o
 
 abbrev pub isAfter : Clock → ℕ → Bool
 isAfter Absent o = true

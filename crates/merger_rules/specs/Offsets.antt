@@ -3,6 +3,7 @@ use mathlib.Core.Path.{_≡_}
 use mathlib.Core.Bool.{Bool}
 use mathlib.Core.List.{List, [], _∷_}
 use Prim.Native.Nat.{ℕ, zero, suc, _+_, _-_, _*_, _%_, _<_, _≤_}
+use Rattle.bits.specs.Sizes.{frameBits}
 use Rattle.merger_rules.specs.declared.Clock.{Clock}
 use Rattle.merger_rules.specs.declared.Clock.the-variants.{Absent, At}
 use Rattle.merger_rules.specs.declared.Held.{Held}
@@ -27,7 +28,7 @@ Past (At l) o = o ≤ l
 -- a whole frame or more after the last release; and, less than 16 frames after it, a whole number of frames
 abbrev pub Clear : Clock → ℕ → Type 0
 Clear Absent o = Unit {0}
-Clear (At l) o = (l + 384 ≤ o) × (o < l + 16 * 384 → (o - l) % 384 ≡ 0)
+Clear (At l) o = (l + frameBits ≤ o) × (o < l + 16 * frameBits → (o - l) % frameBits ≡ 0)
 
 -- one release: what is handed on lies clear of what was released last, and is then what was released last
 abbrev pub Advances : Clock → Released → Clock → Type 0

@@ -4,6 +4,7 @@ use mathlib.Core.Bool.{true, false}
 use mathlib.Core.List.{List, [], _∷_}
 use Prim.Native.Nat.{ℕ, zero, suc, _+_, _≤_}
 use lib.ListN.{length}
+use Rattle.bits.specs.Sizes.{frameBits}
 use Rattle.bits.specs.declared.Refusal.the-variants.{Positions}
 use Rattle.sync_rules.specs.Moves.{noMoves}
 use Rattle.merger_rules.specs.declared.Clock.the-variants.{At}
@@ -55,5 +56,5 @@ Paced d j a b (r ∷ rs) =
 abbrev pub oneSided : ℕ → ℕ → List Round
 oneSided zero o = []
 oneSided (suc n) o =
-    record { frames = record { stream = 0; held = heldOf (record { offset = o; matched = true; errors = 0; moves = noMoves }) o true } ∷ []; primary = o + 384; alternate = 0 }
-    ∷ oneSided n (o + 384)
+    record { frames = record { stream = 0; held = heldOf (record { offset = o; matched = true; errors = 0; moves = noMoves }) o true } ∷ []; primary = o + frameBits; alternate = 0 }
+    ∷ oneSided n (o + frameBits)

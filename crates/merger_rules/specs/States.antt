@@ -2,9 +2,10 @@
 use mathlib.Core.Path.{_≡_}
 use mathlib.Core.Bool.{true, cond, _||_}
 use mathlib.Core.List.{List, [], _∷_}
-use Prim.Native.Nat.{ℕ, suc, _+_, _^_, _<_, _≤_}
+use Prim.Native.Nat.{ℕ, suc, _+_, _<_, _≤_}
 use lib.Dec.{ltb}
 use lib.ListN.{length, getD}
+use Rattle.bits.specs.Sizes.{frameBits, mostOffset}
 use Rattle.bits.specs.Alls.{All}
 use Rattle.merger_rules.specs.declared.Clock.{Clock}
 use Rattle.merger_rules.specs.declared.Clock.the-variants.{Absent, At}
@@ -29,14 +30,14 @@ pub record IsNear (o k : ℕ) : Type 0 where
 -- a held frame belongs to its position's key
 abbrev pub FairPlace : ℕ → Place → Type 0
 FairPlace k Empty = Unit {0}
-FairPlace k (Holds h) = (h .figures .offset ≤ 2 ^ 42) × IsNear (h .figures .offset) k
+FairPlace k (Holds h) = (h .figures .offset ≤ mostOffset) × IsNear (h .figures .offset) k
 
 abbrev pub FairChoice : Choice → Type 0
 FairChoice Neither = Unit {0}
-FairChoice (Chosen h b) = h .figures .offset ≤ 2 ^ 42
+FairChoice (Chosen h b) = h .figures .offset ≤ mostOffset
 
 pub record Fair (p : Position) : Type 0 where
-  pub key : p .key ≤ 2 ^ 42
+  pub key : p .key ≤ mostOffset
   pub first : FairPlace (p .key) (p .primary)
   pub second : FairPlace (p .key) (p .alternate)
   pub held : isHeld (p .primary) || isHeld (p .alternate) ≡ true
@@ -60,7 +61,7 @@ Spaced (p ∷ ps) = Under (p .key) ps × Spaced ps
 
 abbrev pub Marked : Clock → Type 0
 Marked Absent = Unit {0}
-Marked (At l) = l < 2 ^ 42 + 384
+Marked (At l) = l < mostOffset + frameBits
 
 pub record Sound (v : View) : Type 0 where
   pub few : length (v .pending) ≤ 16

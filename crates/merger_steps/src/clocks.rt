@@ -1,24 +1,29 @@
 // Offsets against what was released last.
 ghost use mathlib.Core.Path.{_≡_};
-ghost use Prim.Native.Nat.{_^_, _≤_};
+ghost use Prim.Native.Nat.{_≤_};
+ghost use Rattle.bits.specs.Sizes.{mostOffset};
 ghost use Rattle.merger_rules.specs.Merging.{isLate, snapped, isAfter};
 ghost use Rattle.merger_rules.specs.States.{Marked};
+use bits::FRAME_BITS;
 use merger_rules::Clock;
+
+// Sixteen frames: so far an offset lies on the grid of what was released last.
+const GRID_BITS: u64 = 16 * FRAME_BITS;
 
 // Whether a frame comes too late after what was released last.
 pub fn late(last: Clock, offset: u64) -> bool
-    requires { ⌜ Marked last ⌝ ∗ ⌜ offset ≤ 2 ^ 42 ⌝ }
+    requires { ⌜ Marked last ⌝ ∗ ⌜ offset ≤ mostOffset ⌝ }
     ensures { λ r. ⌜ r ≡ isLate last offset ⌝ }
 {
     match last {
         Clock::Absent => false,
-        Clock::At(r) => offset + 191 < r + 384,
+        Clock::At(r) => offset + 191 < r + FRAME_BITS,
     }
 }
 
 // The offset on the grid of what was released last.
 pub fn snap(last: Clock, offset: u64) -> u64
-    requires { ⌜ Marked last ⌝ ∗ ⌜ offset ≤ 2 ^ 42 ⌝ }
+    requires { ⌜ Marked last ⌝ ∗ ⌜ offset ≤ mostOffset ⌝ }
     ensures { λ r. ⌜ r ≡ snapped last offset ⌝ }
 {
     match last {
@@ -28,13 +33,13 @@ pub fn snap(last: Clock, offset: u64) -> u64
                 return offset;
             }
             let d = offset - l;
-            if 6144 <= d {
+            if GRID_BITS <= d {
                 return offset;
             }
             if d < 192 {
-                return l + 384;
+                return l + FRAME_BITS;
             }
-            l + (d + 192) / 384 * 384
+            l + (d + 192) / FRAME_BITS * FRAME_BITS
         }
     }
 }

@@ -1,14 +1,15 @@
 // The positions in order: the place of a frame, one position more, and the first taken out.
 ghost use mathlib.Core.Path.{_≡_};
-ghost use Prim.Native.Nat.{ℕ, _+_, _-_, _^_, _≤_, _<_};
+ghost use Prim.Native.Nat.{ℕ, _+_, _-_, _≤_, _<_};
 ghost use lib.ListN.{take, drop, getD};
+ghost use Rattle.bits.specs.Sizes.{mostOffset};
 ghost use Rattle.merger_rules.specs.Merging.{insertAt, noPosition};
 ghost use Rattle.merger_rules.specs.States.{belowOf};
 use merger_rules::Position;
 
 // How many positions, from the first, lie more than 191 below the offset.
 pub fn below(positions: [Position; 16], n: usize, offset: u64) -> usize
-    requires { ⌜ n ≤ 16 ⌝ ∗ ⌜ ((i : ℕ) → i < n → getD positions i noPosition .key ≤ 2 ^ 42) ⌝ }
+    requires { ⌜ n ≤ 16 ⌝ ∗ ⌜ ((i : ℕ) → i < n → getD positions i noPosition .key ≤ mostOffset) ⌝ }
     ensures { λ r. ⌜ (r ≡ belowOf offset (take n positions)) × (r ≤ n) ⌝ }
 {
     let mut i = 0;

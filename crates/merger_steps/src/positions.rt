@@ -1,6 +1,7 @@
 // One position: its two places, whether it is ready, whose frame is chosen, which numbers it holds.
 ghost use mathlib.Core.Path.{_≡_};
-ghost use Prim.Native.Nat.{_^_, _≤_};
+ghost use Prim.Native.Nat.{_≤_};
+ghost use Rattle.bits.specs.Sizes.{mostOffset};
 ghost use Rattle.merger_rules.specs.Merging.{taken, filled, alone, passed, isReady, choiceOf, freeOf, freedOf};
 use merger_rules::Choice;
 use merger_rules::Clock;
@@ -69,7 +70,7 @@ pub fn opened(stream: usize, h: Held) -> Position
 
 // Whether a stream has delivered a position or moved past it.
 fn is_passed(place: Place, settled: Clock, key: u64) -> bool
-    requires { ⌜ key ≤ 2 ^ 42 ⌝ }
+    requires { ⌜ key ≤ mostOffset ⌝ }
     ensures { λ r. ⌜ r ≡ passed settled key place ⌝ }
 {
     match place {
@@ -83,7 +84,7 @@ fn is_passed(place: Place, settled: Clock, key: u64) -> bool
 
 // Whether both streams have, or it is a flush.
 pub fn ready(p: Position, primary: Clock, alternate: Clock, flush: bool) -> bool
-    requires { ⌜ p .key ≤ 2 ^ 42 ⌝ }
+    requires { ⌜ p .key ≤ mostOffset ⌝ }
     ensures { λ r. ⌜ r ≡ isReady primary alternate flush p ⌝ }
 {
     if flush {

@@ -3,6 +3,7 @@ ghost use mathlib.Core.Path.{_≡_};
 ghost use mathlib.Core.Bool.{true, cond};
 ghost use Prim.Native.Nat.{_+_, _≤_, _<_};
 ghost use lib.ListN.{length};
+ghost use Rattle.sync_rules.specs.Sizes.{roomSize};
 ghost use Rattle.merging_shelf.specs.Slots.{shelfSlots};
 ghost use Rattle.merging_rules.specs.Accounts.{Accounted, mostTold, toldOf, tells, counted, slotsAfter};
 use frame_outcomes::try_frame;
@@ -17,6 +18,7 @@ use merging_shelf::Shelf;
 use merging_shelf::free_slot;
 use merging_shelf::with_frame;
 use sync_rules::Head;
+use sync_rules::SLOT_SIZE;
 
 // The merger's answer to a frame, and the work after it.
 pub struct Offered {
@@ -166,7 +168,7 @@ pub fn offer_all(
     count: usize,
     room: &[u8],
 ) -> Work
-    requires { ⌜ Accounted w ⌝ ∗ ⌜ toldOf (w .answered) + 3 < mostTold ⌝ ∗ ⌜ count ≤ 3 ⌝ ∗ ⌜ length (now room) ≡ 1296 ⌝ }
+    requires { ⌜ Accounted w ⌝ ∗ ⌜ toldOf (w .answered) + 3 < mostTold ⌝ ∗ ⌜ count ≤ 3 ⌝ ∗ ⌜ length (now room) ≡ roomSize ⌝ }
     ensures accounted { λ r. ⌜ Accounted r ⌝ }
     ensures told { λ r. ⌜ toldOf (r .answered) ≡ toldOf (w .answered) + count ⌝ }
 {
@@ -174,7 +176,13 @@ pub fn offer_all(
     let mut k: usize = 0;
     while k < count {
         let head = heads[k];
-        work = offer(work, table, stream, head, &room[432 * k..432 * k + 48]);
+        work = offer(
+            work,
+            table,
+            stream,
+            head,
+            &room[SLOT_SIZE * k..SLOT_SIZE * k + 48],
+        );
         k += 1;
     }
     work

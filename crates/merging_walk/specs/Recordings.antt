@@ -5,6 +5,7 @@ use mathlib.Core.Bool.{false}
 use mathlib.Core.List.{List, []}
 use Prim.Native.Nat.{ℕ, zero, suc, _+_, _≤_}
 use lib.ListN.{length, take, drop}
+use Rattle.sync_rules.specs.Sizes.{roomSize}
 use Rattle.merger_rules.specs.declared.Clock.the-variants.{At}
 use Rattle.merge_stretches.specs.Stretches.{settledOf}
 use Rattle.sync_rules.specs.State.{State, Input}
@@ -36,7 +37,7 @@ dibitsOf bytes = hardly (unpacked bytes)
 
 -- what pushes do to the state m: up to the first that sends or is refused
 abbrev pub fed : List Input → State → FedOut
-fed xs m = fedOf 1296 xs m
+fed xs m = fedOf roomSize xs m
 
 -- the pushes xs went into the state m
 pub record BroughtBy (xs : List Input) (m : State) (bits reliabilities : List ℕ) (t : Brought) : Type 0 where

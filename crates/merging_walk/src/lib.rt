@@ -20,6 +20,8 @@ use merging_rules::Work;
 use sync::Push;
 use sync::Synchroniser;
 use sync_rules::Head;
+use sync_rules::MOST_HELD;
+use sync_rules::ROOM_SIZE;
 use sync_steps::Numbers;
 use sync_steps::Source;
 use sync_steps::feed_into;
@@ -52,13 +54,13 @@ fn say_refused(answer: Push) {
 
 // Feeds the n dibits of a piece from dibit i on, into rings lent in place. A recording that has none, or whose push is refused, has ended.
 fn take(
-    bits: &mut [u8; 1155],
-    reliabilities: &mut [u8; 1155],
+    bits: &mut [u8; MOST_HELD],
+    reliabilities: &mut [u8; MOST_HELD],
     k: Numbers,
     piece: &[u8],
     i: usize,
     n: usize,
-    room: &mut [u8; 1296],
+    room: &mut [u8; ROOM_SIZE],
 ) -> Brought
     requires { ⌜ Reachable (now bits) (now reliabilities) k ⌝ }
     ensures { λ r. ⌜ BroughtBy (take n (drop i (dibitsOf (now (piece .entry))))) (viewOf (now (bits .entry)) (now (reliabilities .entry)) k) (now (bits .exit)) (now (reliabilities .exit)) r ⌝ }
@@ -120,7 +122,7 @@ fn stirs(m: Merger, primary: Brought, alternate: Brought) -> bool
 }
 
 // Hands in the frames of one push, if it has any.
-fn offered(w: Work, table: &[u8], stream: usize, t: Brought, room: &[u8; 1296]) -> Work
+fn offered(w: Work, table: &[u8], stream: usize, t: Brought, room: &[u8; ROOM_SIZE]) -> Work
     requires { ⌜ Accounted w ⌝ ∗ ⌜ toldOf (w .answered) + 3 < mostTold ⌝ ∗ ⌜ t .count ≤ 3 ⌝ }
     ensures accounted { λ r. ⌜ Accounted r ⌝ }
     ensures told { λ r. ⌜ toldOf (r .answered) ≡ toldOf (w .answered) + t .count ⌝ }
@@ -138,8 +140,8 @@ fn made_of(
     table: &[u8],
     primary: Brought,
     alternate: Brought,
-    one: &[u8; 1296],
-    two: &[u8; 1296],
+    one: &[u8; ROOM_SIZE],
+    two: &[u8; ROOM_SIZE],
 ) -> Work
     requires { ⌜ Accounted w ⌝ ∗ ⌜ toldOf (w .answered) + 6 < mostTold ⌝ ∗ ⌜ primary .count ≤ 3 ⌝ ∗ ⌜ alternate .count ≤ 3 ⌝ }
     ensures accounted { λ r. ⌜ Accounted r ⌝ }
@@ -161,7 +163,7 @@ fn longer(a: usize, b: usize) -> usize
 }
 
 // Puts the rings and numbers together as a synchroniser.
-fn held_in(bits: [u8; 1155], reliabilities: [u8; 1155], numbers: Numbers) -> Synchroniser
+fn held_in(bits: [u8; MOST_HELD], reliabilities: [u8; MOST_HELD], numbers: Numbers) -> Synchroniser
     ensures { λ r. ⌜ r ≡ heldIn bits reliabilities numbers ⌝ }
 {
     Synchroniser {
@@ -187,8 +189,8 @@ pub fn merge_pieces(r: Recordings, table: &[u8], primary: &[u8], alternate: &[u8
     let mut their = second.reliabilities;
     let mut figures = second.numbers;
     let mut work = r.work;
-    let mut one = [0u8; 1296];
-    let mut two = [0u8; 1296];
+    let mut one = [0u8; ROOM_SIZE];
+    let mut two = [0u8; ROOM_SIZE];
     let all = longer(4 * primary.len(), 4 * alternate.len());
     let mut i = 0;
     while i < all {

@@ -4,12 +4,15 @@ ghost use mathlib.Core.Path.{_≡_};
 ghost use mathlib.Core.Bool.{true};
 ghost use Prim.Native.Nat.{_+_, _*_, _≤_, _<_};
 ghost use lib.ListN.{length, take, drop};
+ghost use Rattle.sync_rules.specs.Sizes.{slotSize};
 ghost use Rattle.sync.specs.View.{view};
 ghost use Rattle.reception.specs.Receptions.{SoundReception, NextOf, Told, gives};
 use journal_rules::Earlier;
 use sync::Push;
 use sync::Synchroniser;
 use sync_rules::Head;
+use sync_rules::ROOM_SIZE;
+use sync_rules::SLOT_SIZE;
 use sync_rules::no_moves;
 
 // The file, whether it may hold more, and the piece that was read last, with how many of its dibits are taken.
@@ -24,7 +27,7 @@ pub struct Reception {
     pub count: usize,
     pub given: usize,
     pub heads: [Head; 3],
-    pub room: [u8; 1296],
+    pub room: [u8; ROOM_SIZE],
     pub frames: u64,
     pub earlier: Earlier,
 }
@@ -72,20 +75,20 @@ pub fn opened(fd: i32) -> Reception
         count: 0,
         given: 0,
         heads: [none; 3],
-        room: [0u8; 1296],
+        room: [0u8; ROOM_SIZE],
         frames: 0,
         earlier: Earlier::Nothing,
     }
 }
 
 // The envelope of frame k of a push.
-fn envelope_of(room: [u8; 1296], k: usize) -> [u8; 48]
+fn envelope_of(room: [u8; ROOM_SIZE], k: usize) -> [u8; 48]
     requires { ⌜ k < 3 ⌝ }
-    ensures { λ r. ⌜ r ≡ take 48 (drop (432 * k) room) ⌝ }
+    ensures { λ r. ⌜ r ≡ take 48 (drop (slotSize * k) room) ⌝ }
 {
     let mut envelope = [0u8; 48];
     for i in 0..48usize {
-        envelope[i] = room[432 * k + i];
+        envelope[i] = room[SLOT_SIZE * k + i];
     }
     envelope
 }
@@ -148,7 +151,7 @@ fn feed(r: Reception) -> Reception
     let size = r.size;
     let taken = r.taken;
     let s = r.sync;
-    let mut room = [0u8; 1296];
+    let mut room = [0u8; ROOM_SIZE];
     sync_call_rules::calls_follow_the_rules();
     sync_call_rules::feed_is_pushes();
     let fed = s.feed_packed(&piece[..size], taken, &mut room);

@@ -12,6 +12,7 @@ use replay_list::case_after;
 use replay_list::judged;
 use replay_list::no_whole_case;
 use sync::Synchroniser;
+use sync_rules::ROOM_SIZE;
 
 // Runs the cases one after the other. Each is handed to the three that answer kinds, and two of them hand on the size of an answer that is not theirs.
 // A proved loop has to end, and nothing says that the input does: the turns are counted down, from a number that no run uses up.
@@ -54,7 +55,7 @@ fn replayed(window: &mut [u8], table: &mut [u8], room: &mut [u8], out: &mut [u8]
 fn main() {
     let mut window = io::large_buffer();
     let mut table = [0u8; 256];
-    let mut room = [0u8; 1296];
+    let mut room = [0u8; ROOM_SIZE];
     let mut out = [0u8; 2048];
     replayed(&mut window, &mut table, &mut room, &mut out);
 }

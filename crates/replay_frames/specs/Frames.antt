@@ -4,6 +4,7 @@ use mathlib.Core.Bool.{Bool, cond}
 use mathlib.Core.List.{List, [], _∷_, _++_}
 use Prim.Native.Nat.{ℕ, suc, _*_}
 use lib.ListN.{take, drop}
+use Rattle.sync_rules.specs.Sizes.{slotSize}
 use Rattle.replay_bytes.specs.Bytes.{flagByte, lastBytes, threeBytes}
 use Rattle.sync_rules.specs.declared.Head.{Head}
 
@@ -13,7 +14,7 @@ headBytes h = lastBytes 8 (h .offset) ++ (flagByte (h .matched) ∷ (lastBytes 1
 
 -- "48 bytes and, once a soft push has been made, 384 reliabilities": slot k of the room
 abbrev pub slotBytes : Bool → List ℕ → ℕ → List ℕ
-slotBytes soft room k = take (cond soft 432 48) (drop (432 * k) room)
+slotBytes soft room k = take (cond soft slotSize 48) (drop (slotSize * k) room)
 
 -- the frames with these heads, from slot k on
 unfoldable pub frameBytes : Bool → List ℕ → ℕ → List Head → List ℕ

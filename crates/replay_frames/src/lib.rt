@@ -4,6 +4,7 @@ ghost use mathlib.Core.Bool.{cond};
 ghost use mathlib.Core.List.{_++_};
 ghost use Prim.Native.Nat.{_<_};
 ghost use lib.ListN.{take, drop};
+ghost use Rattle.sync_rules.specs.Sizes.{slotSize};
 ghost use Rattle.replay_bytes.specs.Bytes.{Put};
 ghost use Rattle.replay_frames.specs.Frames.{framesBytes, headBytes, slotBytes};
 use replay_bytes::put_all;
@@ -11,13 +12,14 @@ use replay_bytes::put_flag;
 use replay_bytes::put_number;
 use replay_bytes::put_three;
 use sync_rules::Head;
+use sync_rules::SLOT_SIZE;
 
 // Tells how many bytes of a frame's slot are put: the envelope, and the reliabilities once a soft push has been made.
 fn slot_bytes(soft: bool) -> usize
-    ensures { λ r. ⌜ r ≡ cond soft 432 48 ⌝ }
+    ensures { λ r. ⌜ r ≡ cond soft slotSize 48 ⌝ }
 {
     if soft {
-        return 432;
+        return SLOT_SIZE;
     }
     48
 }
@@ -54,7 +56,7 @@ fn put_frame(out: &mut [u8], to: usize, head: Head, room: &[u8], k: usize, soft:
     ensures { λ r. ⌜ Put (now (out .entry)) to (headBytes head ++ slotBytes soft (now (room .entry)) k) (now (out .exit)) r ⌝ }
 {
     let next = put_head(&mut *out, to, head);
-    put_part(out, next, room, 432 * k, slot_bytes(soft))
+    put_part(out, next, room, SLOT_SIZE * k, slot_bytes(soft))
 }
 
 // Puts how many frames went out, and the frames one behind the other.

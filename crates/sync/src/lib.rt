@@ -15,6 +15,7 @@ ghost use Rattle.sync_rules.specs.Pushes.{quiet};
 ghost use Rattle.sync_rules.specs.Demand.{demand3};
 ghost use Rattle.sync_rules.specs.Statements.{rules};
 use sync_rules::Head;
+use sync_rules::MOST_HELD;
 use sync_rules::StreamFigures;
 use sync_steps::Drained;
 use sync_steps::Given;
@@ -36,8 +37,8 @@ use sync_steps::soft_given;
 
 // The rings of held bits and of their reliabilities, and the numbers that say where in them the held bits lie.
 pub struct Synchroniser {
-    pub bits: [u8; 1155],
-    pub reliabilities: [u8; 1155],
+    pub bits: [u8; MOST_HELD],
+    pub reliabilities: [u8; MOST_HELD],
     pub numbers: Numbers,
 }
 
@@ -78,8 +79,8 @@ impl Synchroniser {
             figures,
         };
         Synchroniser {
-            bits: [0u8; 1155],
-            reliabilities: [0u8; 1155],
+            bits: [0u8; MOST_HELD],
+            reliabilities: [0u8; MOST_HELD],
             numbers,
         }
     }
@@ -259,7 +260,7 @@ fn difference(a: u64, b: u64) -> i64
 }
 
 // What a feed hands back: its answer, and the rings as it left them.
-fn feed_answer(bits: [u8; 1155], reliabilities: [u8; 1155], d: Into) -> Fed
+fn feed_answer(bits: [u8; MOST_HELD], reliabilities: [u8; MOST_HELD], d: Into) -> Fed
     ensures { λ r. ⌜ r ≡ fedWith bits reliabilities d ⌝ }
 {
     let drained = d.drained;

@@ -6,6 +6,8 @@ use mathlib.Core.List.{List, [], _∷_, _++_}
 use mathlib.Core.Bool.{Bool, true, false, cond}
 use Prim.Native.Nat.{ℕ, zero, suc, _+_, _-_, _*_, _<_}
 use lib.ListN.{length, take, drop}
+use Rattle.bits.specs.Sizes.{frameBits}
+use Rattle.sync_rules.specs.Sizes.{slotSize}
 use Rattle.sync.specs.declared.Synchroniser.{Synchroniser}
 use Rattle.sync_steps.specs.declared.Push.{Push}
 use Rattle.sync_steps.specs.declared.Push.the-variants.{Taken, Refused}
@@ -79,7 +81,7 @@ pub record Got : Type 0 where
 -- the frames with these heads in the room, from slot k on
 unfoldable pub slots : List Head → List ℕ → ℕ → List Got
 slots [] room k = []
-slots (h ∷ hs) room k = record { head = h; envelope = take 48 (drop (432 * k) room) } ∷ slots hs room (suc k)
+slots (h ∷ hs) room k = record { head = h; envelope = take 48 (drop (slotSize * k) room) } ∷ slots hs room (suc k)
 
 -- all frames that the calls handed out
 unfoldable pub handed : List Call → List Got
@@ -102,7 +104,7 @@ pub record Whole : Type 0 where
 -- the frames with these heads in the room, from slot k on: the 384 bytes behind an envelope are its reliabilities once a soft push has been made
 unfoldable pub wholeSlots : Bool → List Head → List ℕ → ℕ → List Whole
 wholeSlots soft [] room k = []
-wholeSlots soft (h ∷ hs) room k = record { frame = record { head = h; envelope = take 48 (drop (432 * k) room) }; reliabilities = cond soft (take 384 (drop (432 * k + 48) room)) [] } ∷ wholeSlots soft hs room (suc k)
+wholeSlots soft (h ∷ hs) room k = record { frame = record { head = h; envelope = take 48 (drop (slotSize * k) room) }; reliabilities = cond soft (take frameBits (drop (slotSize * k + 48) room)) [] } ∷ wholeSlots soft hs room (suc k)
 
 -- all frames that the calls handed out; the soft mark is that of the state handed back with them
 unfoldable pub handedWhole : List Call → List Whole

@@ -3,9 +3,10 @@
 use mathlib.Core.Path.{_≡_}
 use mathlib.Core.List.{List, [], _∷_, _++_}
 use mathlib.Core.Bool.{Bool, true, false}
-use Prim.Native.Nat.{ℕ, zero, suc, _+_, _*_, _≤_}
+use Prim.Native.Nat.{ℕ, zero, suc, _+_, _-_, _*_, _≤_}
 use lib.ListN.{length}
 use lib.Seq.{sets}
+use Rattle.sync_rules.specs.Sizes.{inPlaceBits, outOfPlaceBits}
 use Rattle.sync_numbers.specs.declared.numbers.Numbers.{Numbers}
 use Rattle.sync_frames.specs.declared.frames.Drained.{Drained}
 use Rattle.sync_frames.specs.declared.frames.Framed.{Framed}
@@ -57,15 +58,15 @@ pub record Ready (c : Numbers) (placed : Bool) : Type 0 where
   pub slips : c .figures .later + c .figures .earlier ≤ 3 * c .figures .frames
   pub failures : c .figures .failures ≤ 2
   pub locked : c .figures .locked ≡ true
-  pub enough : 384 ≤ c .pending
-  pub more : placed ≡ false → 392 ≤ c .pending
+  pub enough : inPlaceBits ≤ c .pending
+  pub more : placed ≡ false → outOfPlaceBits ≤ c .pending
 
 -- whether a frame is ready
 pub record Looked (bits : List ℕ) (c : Numbers) (r : Readiness) : Type 0 where
   pub same : (ys : List ℕ) → r .ready ≡ ready (viewOf bits ys c)
   pub can : r .ready ≡ true → Ready c (r .placed)
   pub seen : r .ready ≡ true → r .placed ≡ inPlace (ring bits (c .first + c .restorable) (c .pending)) 0
-  pub few : r .ready ≡ false → c .figures .locked ≡ true → c .pending ≤ 391
+  pub few : r .ready ≡ false → c .figures .locked ≡ true → c .pending ≤ outOfPlaceBits - 1
 
 -- the figures of a frame that go back by value
 abbrev pub headOf : Frame → Head

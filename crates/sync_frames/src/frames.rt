@@ -1,8 +1,9 @@
 // Frames: when one is ready, its front and segments, and up to three of them a push.
 ghost use mathlib.Core.Path.{_≡_};
 ghost use mathlib.Core.Bool.{false};
-ghost use Prim.Native.Nat.{_+_, _*_, _<_, _≤_};
+ghost use Prim.Native.Nat.{_+_, _-_, _*_, _<_, _≤_};
 ghost use lib.ListN.{length};
+ghost use Rattle.sync_rules.specs.Sizes.{outOfPlaceBits, searchBits, slotSize, roomSize};
 ghost use Rattle.bits.specs.Bit.{Bits};
 ghost use Rattle.sync_rings.specs.Ring.{ring};
 ghost use Rattle.sync_numbers.specs.View.{Sound, Low, Steady, viewOf};
@@ -26,7 +27,14 @@ use sync_rings::matches_at;
 use sync_rings::segment_at;
 use sync_rings::two_of;
 use sync_rules::Head;
+use sync_rules::IN_PLACE_BITS;
+use sync_rules::MOST_HELD;
 use sync_rules::Moves;
+use sync_rules::OUT_OF_PLACE_BITS;
+use sync_rules::SLOT_SIZE;
+
+// Where the third slot of the room begins.
+const THIRD_SLOT: usize = 2 * SLOT_SIZE;
 
 // What is said of a frame, and the numbers that it leaves.
 pub struct Framed {
@@ -48,8 +56,8 @@ pub struct Drained {
 }
 
 // Follows the front of a frame that is not in place: it stays, goes a symbol later, or a symbol back.
-fn front(bits: &[u8; 1155], c: Numbers) -> Numbers
-    requires { ⌜ Bits (now bits) ⌝ ∗ ⌜ Sound c ⌝ ∗ ⌜ 392 ≤ c .pending ⌝ ∗ ⌜ c .figures .later + c .figures .earlier ≤ 3 * c .figures .frames ⌝ ∗ ⌜ Low c ⌝ }
+fn front(bits: &[u8; MOST_HELD], c: Numbers) -> Numbers
+    requires { ⌜ Bits (now bits) ⌝ ∗ ⌜ Sound c ⌝ ∗ ⌜ outOfPlaceBits ≤ c .pending ⌝ ∗ ⌜ c .figures .later + c .figures .earlier ≤ 3 * c .figures .frames ⌝ ∗ ⌜ Low c ⌝ }
     ensures { λ r. ⌜ Fronted (now (bits .entry)) c r ⌝ }
 {
     let base = c.first + c.restorable;
@@ -76,8 +84,8 @@ fn front(bits: &[u8; 1155], c: Numbers) -> Numbers
 
 // Sends the frame at the front, its second and third segment p and q behind it, with these moves: writes it into the room and counts it.
 fn frame_at<'a>(
-    bits: &'a [u8; 1155],
-    reliabilities: &'a [u8; 1155],
+    bits: &'a [u8; MOST_HELD],
+    reliabilities: &'a [u8; MOST_HELD],
     c: Numbers,
     room: &mut [u8],
     to: usize,
@@ -85,7 +93,7 @@ fn frame_at<'a>(
     q: usize,
     moves: Moves,
 ) -> Framed
-    requires { ⌜ Bits (now bits) ⌝ ∗ ⌜ Sendable c p q ⌝ ∗ ⌜ to + 432 ≤ length (now room) ⌝ }
+    requires { ⌜ Bits (now bits) ⌝ ∗ ⌜ Sendable c p q ⌝ ∗ ⌜ to + slotSize ≤ length (now room) ⌝ }
     ensures { λ r. ⌜ ((v : Move) → moves ≡ movesAt v p q → SentBy (now (bits .entry)) (now (reliabilities .entry)) (now (room .entry)) (now (room .exit)) to (c .pending) (sendAt v (viewOf (now (bits .entry)) (now (reliabilities .entry)) c) p q) r) ⌝ }
 {
     let base = c.first + c.restorable;
@@ -115,14 +123,14 @@ fn frame_at<'a>(
 
 // Sends one frame, in place or not.
 fn frame<'a>(
-    bits: &'a [u8; 1155],
-    reliabilities: &'a [u8; 1155],
+    bits: &'a [u8; MOST_HELD],
+    reliabilities: &'a [u8; MOST_HELD],
     c: Numbers,
     room: &mut [u8],
     to: usize,
     placed: bool,
 ) -> Framed
-    requires { ⌜ Bits (now bits) ⌝ ∗ ⌜ Ready c placed ⌝ ∗ ⌜ placed ≡ inPlace (ring (now bits) (c .first + c .restorable) (c .pending)) 0 ⌝ ∗ ⌜ to + 432 ≤ length (now room) ⌝ }
+    requires { ⌜ Bits (now bits) ⌝ ∗ ⌜ Ready c placed ⌝ ∗ ⌜ placed ≡ inPlace (ring (now bits) (c .first + c .restorable) (c .pending)) 0 ⌝ ∗ ⌜ to + slotSize ≤ length (now room) ⌝ }
     ensures { λ r. ⌜ SentBy (now (bits .entry)) (now (reliabilities .entry)) (now (room .entry)) (now (room .exit)) to (c .pending + 2) (send (viewOf (now (bits .entry)) (now (reliabilities .entry)) c)) r ⌝ }
 {
     if placed {
@@ -144,12 +152,12 @@ fn frame<'a>(
 }
 
 // Tells whether a frame is ready, and whether it is in place.
-fn look(bits: &[u8; 1155], c: Numbers) -> Readiness
+fn look(bits: &[u8; MOST_HELD], c: Numbers) -> Readiness
     requires { ⌜ Bits (now bits) ⌝ ∗ ⌜ Steady c ⌝ }
     ensures { λ r. ⌜ Looked (now (bits .entry)) c r ⌝ }
 {
     if c.figures.locked {
-        if c.pending < 384 {
+        if c.pending < IN_PLACE_BITS {
             return Readiness {
                 ready: false,
                 placed: false,
@@ -163,7 +171,7 @@ fn look(bits: &[u8; 1155], c: Numbers) -> Readiness
                 placed: true,
             };
         }
-        if c.pending < 392 {
+        if c.pending < OUT_OF_PLACE_BITS {
             return Readiness {
                 ready: false,
                 placed: false,
@@ -215,12 +223,12 @@ pub fn nothing(numbers: Numbers) -> Drained
 
 // Sends up to three frames, once a frame's bits are pending.
 fn three<'a>(
-    bits: &'a [u8; 1155],
-    reliabilities: &'a [u8; 1155],
+    bits: &'a [u8; MOST_HELD],
+    reliabilities: &'a [u8; MOST_HELD],
     c: Numbers,
     room: &mut [u8],
 ) -> Drained
-    requires { ⌜ Bits (now bits) ⌝ ∗ ⌜ Steady c ⌝ ∗ ⌜ 1296 ≤ length (now room) ⌝ ∗ ⌜ (c .figures .locked ≡ false → c .pending ≤ 1151) ⌝ }
+    requires { ⌜ Bits (now bits) ⌝ ∗ ⌜ Steady c ⌝ ∗ ⌜ roomSize ≤ length (now room) ⌝ ∗ ⌜ (c .figures .locked ≡ false → c .pending ≤ searchBits - 1) ⌝ }
     ensures { λ r. ⌜ DrainedBy (now (bits .entry)) (now (reliabilities .entry)) (now (room .entry)) (now (room .exit)) 0 3 (drain 3 (viewOf (now (bits .entry)) (now (reliabilities .entry)) c)) (r .numbers) (r .count) (r .heads) ⌝ }
 {
     let moves = Moves {
@@ -241,12 +249,12 @@ fn three<'a>(
         let h1 = f.head;
         let b = look(bits, c1);
         if b.ready {
-            let g = frame(bits, reliabilities, c1, &mut *room, 432, b.placed);
+            let g = frame(bits, reliabilities, c1, &mut *room, SLOT_SIZE, b.placed);
             let c2 = g.numbers;
             let h2 = g.head;
             let d = look(bits, c2);
             if d.ready {
-                let h = frame(bits, reliabilities, c2, &mut *room, 864, d.placed);
+                let h = frame(bits, reliabilities, c2, &mut *room, THIRD_SLOT, d.placed);
                 let c3 = h.numbers;
                 let h3 = h.head;
                 return frames_out(c3, 3, [h1, h2, h3]);
@@ -260,16 +268,16 @@ fn three<'a>(
 
 // Sends up to three frames, while one is ready. Most pushes end before a frame could be.
 pub fn drain<'a>(
-    bits: &'a [u8; 1155],
-    reliabilities: &'a [u8; 1155],
+    bits: &'a [u8; MOST_HELD],
+    reliabilities: &'a [u8; MOST_HELD],
     c: Numbers,
     room: &mut [u8],
 ) -> Drained
-    requires { ⌜ Bits (now bits) ⌝ ∗ ⌜ Steady c ⌝ ∗ ⌜ 1296 ≤ length (now room) ⌝ ∗ ⌜ (c .figures .locked ≡ false → c .pending ≤ 1151) ⌝ }
+    requires { ⌜ Bits (now bits) ⌝ ∗ ⌜ Steady c ⌝ ∗ ⌜ roomSize ≤ length (now room) ⌝ ∗ ⌜ (c .figures .locked ≡ false → c .pending ≤ searchBits - 1) ⌝ }
     ensures { λ r. ⌜ DrainedBy (now (bits .entry)) (now (reliabilities .entry)) (now (room .entry)) (now (room .exit)) 0 3 (drain 3 (viewOf (now (bits .entry)) (now (reliabilities .entry)) c)) (r .numbers) (r .count) (r .heads) ⌝ }
 {
     if c.figures.locked {
-        if 384 <= c.pending {
+        if IN_PLACE_BITS <= c.pending {
             return three(bits, reliabilities, c, room);
         }
         return nothing(c);

@@ -4,8 +4,10 @@
 use mathlib.Core.Path.{_≡_}
 use mathlib.Core.List.{List}
 use mathlib.Core.Bool.{true}
-use Prim.Native.Nat.{ℕ, _+_, _*_, _≤_, _<_, _^_}
+use Prim.Native.Nat.{ℕ, _+_, _-_, _*_, _≤_, _<_}
 use lib.ListN.{length}
+use Rattle.bits.specs.Sizes.{frameBits}
+use Rattle.sync_rules.specs.Sizes.{outOfPlaceBits, searchBits, mostHeld, mostDibits}
 use Rattle.bits.specs.Bit.{Bits}
 use Rattle.sync_numbers.specs.declared.numbers.Numbers.{Numbers}
 use Rattle.sync_rings.specs.Ring.{ring}
@@ -20,13 +22,13 @@ viewOf bits reliabilities c = record { held = heldOf bits c; reliabilities = hel
 
 -- what holds at any instant
 pub record Sound (c : Numbers) : Type 0 where
-  pub first-in : c .first < 1155
+  pub first-in : c .first < mostHeld
   pub restorable-few : c .restorable ≤ 2
-  pub held-few : c .restorable + c .pending ≤ 1155
-  pub taken-few : c .figures .taken ≤ 2 ^ 40
+  pub held-few : c .restorable + c .pending ≤ mostHeld
+  pub taken-few : c .figures .taken ≤ mostDibits
   -- a frame moves the clock by 384 and takes 378 bits or more (63·384 = 64·378): the clock stays below 2^42
   pub tide : 63 * c .figures .clock + 64 * c .pending ≤ 128 * c .figures .taken + 128
-  pub grid : 384 * c .figures .frames ≤ c .figures .clock
+  pub grid : frameBits * c .figures .frames ≤ c .figures .clock
   pub synchronised-few : c .figures .synchronised ≤ c .figures .frames
   pub slips-few : c .figures .later + c .figures .earlier ≤ 3 * c .figures .frames + 3
   pub failures-few : c .figures .failures ≤ 3
@@ -44,10 +46,10 @@ pub record Steady (c : Numbers) : Type 0 where
 
 -- what holds between pushes
 abbrev pub Few : Numbers → Type 0
-Few c = (c .figures .locked ≡ true → c .pending ≤ 391) × (c .pending ≤ 1151)
+Few c = (c .figures .locked ≡ true → c .pending ≤ outOfPlaceBits - 1) × (c .pending ≤ searchBits - 1)
 
 -- rings lent in place: 1,155 places each, and bits that are 0 or 1
 pub record Rings (bits reliabilities : List ℕ) : Type 0 where
-  pub long : length bits ≡ 1155
-  pub as-long : length reliabilities ≡ 1155
+  pub long : length bits ≡ mostHeld
+  pub as-long : length reliabilities ≡ mostHeld
   pub binary : Bits bits

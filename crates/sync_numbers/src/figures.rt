@@ -4,8 +4,10 @@ ghost use mathlib.Core.Path.{_≡_};
 ghost use mathlib.Core.Bool.{true, cond, _||_};
 ghost use Prim.Native.Nat.{_+_, _^_, _<_, _≤_};
 ghost use lib.Dec.{ltb};
+ghost use Rattle.sync_rules.specs.Sizes.{mostDibits};
 ghost use Rattle.sync_rules.specs.Figures.{dibitTaken, slipsCounted, bitsPassed, frameSent};
 ghost use Rattle.sync_numbers.specs.Numbers.{shiftCounted};
+use bits::FRAME_BITS;
 use sync_rules::StreamFigures;
 
 fn or(a: bool, b: bool) -> bool
@@ -19,7 +21,7 @@ fn or(a: bool, b: bool) -> bool
 
 // Counts a dibit, of a soft push or a hard one.
 pub fn dibit_taken(figures: StreamFigures, soft: bool) -> StreamFigures
-    requires { ⌜ figures .taken < 2 ^ 40 ⌝ }
+    requires { ⌜ figures .taken < mostDibits ⌝ }
     ensures { λ r. ⌜ r ≡ dibitTaken soft figures ⌝ }
 {
     let mut f = figures;
@@ -82,7 +84,7 @@ pub fn frame_sent(figures: StreamFigures, matched: bool) -> StreamFigures
     ensures { λ r. ⌜ r ≡ frameSent matched figures ⌝ }
 {
     let mut f = figures;
-    f.clock = figures.clock + 384;
+    f.clock = figures.clock + FRAME_BITS;
     f.frames = figures.frames + 1;
     if matched {
         f.failures = 0;

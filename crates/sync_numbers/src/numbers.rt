@@ -9,6 +9,7 @@ ghost use Rattle.sync_numbers.specs.Numbers.{Dropped, Restored, Left, nu
 use super::figures::frame_sent;
 use super::figures::shift_counted;
 use super::figures::slips_counted;
+use sync_rules::MOST_HELD;
 use sync_rules::StreamFigures;
 
 // Everything but the rings: where in them the held bits begin, how many of these are restorable and how many pending, and the figures.
@@ -28,7 +29,7 @@ pub fn dropped(c: Numbers, k: usize) -> Numbers
     let passed = c.restorable + k;
     d.pending = c.pending - k;
     if 2 < passed {
-        d.first = (c.first + (passed - 2)) % 1155;
+        d.first = (c.first + (passed - 2)) % MOST_HELD;
         d.restorable = 2;
         return d;
     }

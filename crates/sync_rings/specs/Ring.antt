@@ -4,10 +4,11 @@ use mathlib.Core.Path.{_≡_}
 use mathlib.Core.List.{List, [], _∷_, _++_}
 use Prim.Native.Nat.{ℕ, zero, suc, _+_, _%_, _≤_}
 use lib.ListN.{getD}
+use Rattle.sync_rules.specs.Sizes.{mostHeld}
 
 unfoldable pub ring : List ℕ → ℕ → ℕ → List ℕ
 ring xs f zero = []
-ring xs f (suc n) = getD xs (f % 1155) 0 ∷ ring xs (suc f) n
+ring xs f (suc n) = getD xs (f % mostHeld) 0 ∷ ring xs (suc f) n
 
 -- what w elements from place `from` on show, as P says it of any run of the ring that holds them, p behind its first
 abbrev pub Seen : {A : Type 0} → List ℕ → ℕ → ℕ → A → (List ℕ → ℕ → A) → Type 0

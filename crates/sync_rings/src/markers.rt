@@ -5,8 +5,10 @@ ghost use mathlib.Core.Bool.{true};
 ghost use Prim.Native.Nat.{ℕ, _+_, _%_, _<_, _≤_};
 ghost use Rattle.bits.specs.Bit.{Bits};
 ghost use Rattle.sync_rings.specs.Ring.{ring, Seen};
+ghost use Rattle.sync_rules.specs.Sizes.{searchBits};
 ghost use Rattle.sync_rules.specs.Matching.{spell, matches, errors, twoOf, shows, locksAt, inPlace};
 ghost use Rattle.sync_rules.specs.Moves.{moved, moveTo};
+use sync_rules::MOST_HELD;
 
 // Whether a marker matches, and how many of its 16 bits are wrong.
 pub struct Reading {
@@ -22,17 +24,17 @@ fn wide(b: u8) -> u16
 }
 
 // Reads the number that `count` bits from place `from` on spell, highest first.
-pub(crate) fn spelled(bits: &[u8; 1155], from: usize, count: usize) -> u16
+pub(crate) fn spelled(bits: &[u8; MOST_HELD], from: usize, count: usize) -> u16
     requires { ⌜ Bits (now bits) ⌝ ∗ ⌜ count ≤ 16 ⌝ }
     ensures { λ r. ⌜ r ≡ spell 0 (ring (now (bits .entry)) from count) ⌝ }
 {
     let mut value: u16 = 0;
-    let mut at: usize = from % 1155;
+    let mut at: usize = from % MOST_HELD;
     let mut i: usize = 0;
     while i < count {
         value = value * 2 + wide(bits[at]);
         at += 1;
-        if at == 1155 {
+        if at == MOST_HELD {
             at = 0;
         }
         i += 1;
@@ -41,7 +43,7 @@ pub(crate) fn spelled(bits: &[u8; 1155], from: usize, count: usize) -> u16
 }
 
 // Reads the marker of a segment at place `from`.
-pub fn marker(bits: &[u8; 1155], from: usize, segment: usize) -> Reading
+pub fn marker(bits: &[u8; MOST_HELD], from: usize, segment: usize) -> Reading
     requires { ⌜ Bits (now bits) ⌝ ∗ ⌜ segment < 3 ⌝ }
     ensures ok { λ r. ⌜ Seen (now (bits .entry)) from 16 (r .matched) (λ xs p. matches xs p segment) ⌝ }
     ensures errors { λ r. ⌜ Seen (now (bits .entry)) from 16 (r .errors) (λ xs p. errors xs p segment) ⌝ }
@@ -57,7 +59,7 @@ pub fn marker(bits: &[u8; 1155], from: usize, segment: usize) -> Reading
 }
 
 // Tells whether it matches. Its first four matching bits are read before the others: noise seldom shows them.
-pub fn matches_at(bits: &[u8; 1155], from: usize, segment: usize) -> bool
+pub fn matches_at(bits: &[u8; MOST_HELD], from: usize, segment: usize) -> bool
     requires { ⌜ Bits (now bits) ⌝ ∗ ⌜ segment < 3 ⌝ ∗ ⌜ from < 20000 ⌝ }
     ensures { λ r. ⌜ Seen (now (bits .entry)) from 16 r (λ xs p. matches xs p segment) ⌝ }
 {
@@ -88,7 +90,7 @@ pub fn two_of(a: bool, b: bool, c: bool) -> bool
 }
 
 // Tells whether the frame at place `from` shows at least two of its three markers.
-pub(crate) fn two_of_three(bits: &[u8; 1155], from: usize) -> bool
+pub(crate) fn two_of_three(bits: &[u8; MOST_HELD], from: usize) -> bool
     requires { ⌜ Bits (now bits) ⌝ ∗ ⌜ from < 10000 ⌝ }
     ensures { λ r. ⌜ Seen (now (bits .entry)) from 272 r (λ xs p. shows xs p) ⌝ }
 {
@@ -107,9 +109,9 @@ pub(crate) fn two_of_three(bits: &[u8; 1155], from: usize) -> bool
 }
 
 // Tells whether three frames 384 bits apart do.
-pub fn three_frames(bits: &[u8; 1155], from: usize) -> bool
+pub fn three_frames(bits: &[u8; MOST_HELD], from: usize) -> bool
     requires { ⌜ Bits (now bits) ⌝ ∗ ⌜ from < 4000 ⌝ }
-    ensures { λ r. ⌜ Seen (now (bits .entry)) from 1152 r (λ xs p. locksAt xs p) ⌝ }
+    ensures { λ r. ⌜ Seen (now (bits .entry)) from searchBits r (λ xs p. locksAt xs p) ⌝ }
 {
     let a = two_of_three(bits, from);
     if a {
@@ -123,7 +125,7 @@ pub fn three_frames(bits: &[u8; 1155], from: usize) -> bool
 }
 
 // Tells whether the frame at place `from` shows all three.
-pub fn in_place(bits: &[u8; 1155], from: usize) -> bool
+pub fn in_place(bits: &[u8; MOST_HELD], from: usize) -> bool
     requires { ⌜ Bits (now bits) ⌝ ∗ ⌜ from < 4000 ⌝ }
     ensures { λ r. ⌜ Seen (now (bits .entry)) from 272 r (λ xs p. inPlace xs p) ⌝ }
 {
@@ -139,7 +141,7 @@ pub fn in_place(bits: &[u8; 1155], from: usize) -> bool
 }
 
 // Finds where a segment starts, behind the place `base`: at `at`, a symbol later, or a symbol earlier.
-pub fn segment_at(bits: &[u8; 1155], base: usize, at: usize, segment: usize) -> usize
+pub fn segment_at(bits: &[u8; MOST_HELD], base: usize, at: usize, segment: usize) -> usize
     requires { ⌜ Bits (now bits) ⌝ ∗ ⌜ segment < 3 ⌝ ∗ ⌜ base < 4000 ⌝ ∗ ⌜ 2 ≤ at ⌝ ∗ ⌜ at < 4000 ⌝ }
     ensures { λ r. ⌜ ((n : ℕ) → at + 18 ≤ n → r ≡ moved (moveTo (ring (now (bits .entry)) base n) at segment) at) ⌝ }
     ensures near { λ r. ⌜ (r ≤ at + 2) × (at ≤ r + 2) ⌝ }

@@ -9,9 +9,10 @@ ghost use Rattle.bits.specs.Bit.{Bits};
 ghost use Rattle.sync_rings.specs.Ring.{ring, runs};
 ghost use Rattle.sync_rules.specs.Room.{bytesOf};
 use super::markers::spelled;
+use sync_rules::MOST_HELD;
 
 // Writes 128 bits as 16 bytes.
-fn write_bits(room: &mut [u8], to: usize, bits: &[u8; 1155], from: usize)
+fn write_bits(room: &mut [u8], to: usize, bits: &[u8; MOST_HELD], from: usize)
     requires { ⌜ Bits (now bits) ⌝ ∗ ⌜ to + 16 ≤ length (now room) ⌝ ∗ ⌜ from < 10000 ⌝ }
     ensures { λ r. ⌜ now (room .exit) ≡ sets (now (room .entry)) to (bytesOf 16 (ring (now (bits .entry)) from 128)) ⌝ }
 {
@@ -24,19 +25,19 @@ fn write_bits(room: &mut [u8], to: usize, bits: &[u8; 1155], from: usize)
 }
 
 // Writes 128 reliabilities.
-fn write_reliabilities(room: &mut [u8], to: usize, reliabilities: &[u8; 1155], from: usize)
+fn write_reliabilities(room: &mut [u8], to: usize, reliabilities: &[u8; MOST_HELD], from: usize)
     requires { ⌜ to + 128 ≤ length (now room) ⌝ ∗ ⌜ from < 10000 ⌝ }
     ensures { λ r. ⌜ now (room .exit) ≡ sets (now (room .entry)) to (ring (now (reliabilities .entry)) from 128) ⌝ }
 {
     let mut i: usize = 0;
     while i < 128 {
-        room[to + i] = reliabilities[(from + i) % 1155];
+        room[to + i] = reliabilities[(from + i) % MOST_HELD];
         i += 1;
     }
 }
 
 // Writes a frame's 48 envelope bytes: its segments stand at `base`, p behind it and q behind it.
-pub fn lay_bits(room: &mut [u8], to: usize, bits: &[u8; 1155], base: usize, p: usize, q: usize)
+pub fn lay_bits(room: &mut [u8], to: usize, bits: &[u8; MOST_HELD], base: usize, p: usize, q: usize)
     requires { ⌜ Bits (now bits) ⌝ ∗ ⌜ to + 48 ≤ length (now room) ⌝ ∗ ⌜ base < 4000 ⌝ ∗ ⌜ p < 1000 ⌝ ∗ ⌜ q < 1000 ⌝ }
     ensures { λ r. ⌜ now (room .exit) ≡ sets (now (room .entry)) to (bytesOf 48 (runs (now (bits .entry)) base p q)) ⌝ }
 {
@@ -49,7 +50,7 @@ pub fn lay_bits(room: &mut [u8], to: usize, bits: &[u8; 1155], base: usize, p: u
 fn lay_reliabilities(
     room: &mut [u8],
     to: usize,
-    reliabilities: &[u8; 1155],
+    reliabilities: &[u8; MOST_HELD],
     base: usize,
     p: usize,
     q: usize,
@@ -66,7 +67,7 @@ fn lay_reliabilities(
 pub fn lay_soft(
     room: &mut [u8],
     to: usize,
-    reliabilities: &[u8; 1155],
+    reliabilities: &[u8; MOST_HELD],
     base: usize,
     p: usize,
     q: usize,

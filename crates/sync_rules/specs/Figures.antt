@@ -3,6 +3,7 @@
 use mathlib.Core.Bool.{Bool, true, false, cond, _||_}
 use Prim.Native.Nat.{ℕ, _+_}
 use lib.Dec.{ltb}
+use Rattle.bits.specs.Sizes.{frameBits}
 use Rattle.sync_rules.specs.declared.StreamFigures.{StreamFigures}
 
 abbrev pub noFigures : StreamFigures
@@ -22,4 +23,4 @@ bitsPassed bits found f = record { taken = f .taken; clock = f .clock + bits; la
 
 -- a frame sent, matched or not; lock ends with the third in a row that is not matched
 abbrev pub frameSent : Bool → StreamFigures → StreamFigures
-frameSent matched f = record { taken = f .taken; clock = f .clock + 384; later = f .later; earlier = f .earlier; frames = f .frames + 1; synchronised = f .synchronised + cond matched 1 0; failures = cond matched 0 (f .failures + 1); locked = cond matched true (ltb (f .failures + 1) 3); soft = f .soft }
+frameSent matched f = record { taken = f .taken; clock = f .clock + frameBits; later = f .later; earlier = f .earlier; frames = f .frames + 1; synchronised = f .synchronised + cond matched 1 0; failures = cond matched 0 (f .failures + 1); locked = cond matched true (ltb (f .failures + 1) 3); soft = f .soft }

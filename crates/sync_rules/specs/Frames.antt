@@ -6,6 +6,7 @@ use Prim.Native.Nat.{ℕ, _+_}
 use lib.ListN.{length, take, drop}
 use lib.Dec.{leb, eqb}
 use Rattle.sync_rules.specs.declared.Moves.{Moves}
+use Rattle.sync_rules.specs.Sizes.{inPlaceBits, outOfPlaceBits}
 use Rattle.sync_rules.specs.Matching.{matches, errors, twoOf, inPlace}
 use Rattle.sync_rules.specs.Figures.{frameSent}
 use Rattle.sync_rules.specs.Moves.{Move, Stay, Later, Earlier, moved, inBits, movesAt, moveBy, moveTo}
@@ -22,7 +23,7 @@ pub record Frame : Type 0 where
 -- locked, and 384 bits pending of a frame in place, 392 of one that is not
 unfoldable pub ready : State → Bool
 unfolding inPlace
-ready m = m .figures .locked && (leb 384 (length (pending m)) && (inPlace (pending m) 0 || leb 392 (length (pending m))))
+ready m = m .figures .locked && (leb inPlaceBits (length (pending m)) && (inPlace (pending m) 0 || leb outOfPlaceBits (length (pending m))))
 
 -- the front move of a frame that is not in place: its first marker is looked for where it is due, a symbol later, and a symbol earlier, where the two
 -- restorable bits begin

@@ -1,3 +1,4 @@
+pub mod Sizes
 pub mod Matching
 pub mod Moves
 pub mod Figures

@@ -8,6 +8,7 @@ use lib.ListN.{take, drop}
 use lib.Dec.{eqb}
 use lib.Bits.{differ}
 use Rattle.bits.specs.Bit.{digit, tab}
+use Rattle.bits.specs.Sizes.{frameBits}
 use Rattle.coding_rules.specs.Markers.{marker}
 
 -- the number that bits spell after the number v, highest bit first
@@ -56,7 +57,7 @@ inPlace xs p = matches xs p 0 && (matches xs (p + 128) 1 && matches xs (p + 256)
 -- three frames 384 bits apart each show at least two of their markers
 unfoldable pub locksAt : List ℕ → ℕ → Bool
 unfolding shows
-locksAt xs p = shows xs p && (shows xs (p + 384) && shows xs (p + 768))
+locksAt xs p = shows xs p && (shows xs (p + frameBits) && shows xs (p + 2 * frameBits))
 
 -- the first of the n places from p on where f holds, or p + n
 unfoldable pub firstOf : (ℕ → Bool) → ℕ → ℕ → ℕ

@@ -5,6 +5,7 @@ use mathlib.Core.Bool.{Bool, cond}
 use Prim.Native.Nat.{ℕ, zero, suc, _+_, _-_, _/_}
 use lib.ListN.{length}
 use lib.Dec.{ltb}
+use Rattle.sync_rules.specs.Sizes.{inPlaceBits, searchBits}
 use Rattle.sync_rules.specs.Matching.{locksAt, firstOf}
 use Rattle.sync_rules.specs.Figures.{bitsPassed}
 use Rattle.sync_rules.specs.State.{State, Input, pending, withFigures, pass, bring}
@@ -12,7 +13,7 @@ use Rattle.sync_rules.specs.Frames.{Frame, ready, send}
 
 -- at how many places a search tries: those from which 1,152 bits are pending
 unfoldable pub tries : State → ℕ
-tries m = length (pending m) - 1151
+tries m = length (pending m) - (searchBits - 1)
 
 -- p bits passed in a search, and a lock if they are fewer than the places tried
 unfoldable pub searchAt : State → ℕ → State
@@ -54,7 +55,7 @@ run (x ∷ xs) m =
 
 -- the most bits that can be pending with nothing to do: a frame in place has 384, and without a lock a search wants 1,152
 abbrev pub mostIdle : Bool → ℕ
-mostIdle locked = cond locked 383 1151
+mostIdle locked = cond locked (inPlaceBits - 1) (searchBits - 1)
 
 -- how many pushes can follow of which none searches or sends, whatever they bring
 unfoldable pub quiet : State → ℕ

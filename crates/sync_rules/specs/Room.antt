@@ -5,6 +5,7 @@ use mathlib.Core.List.{List, [], _∷_, _++_}
 use Prim.Native.Nat.{ℕ, zero, suc, _*_}
 use lib.ListN.{take, drop}
 use lib.Seq.{sets}
+use Rattle.sync_rules.specs.Sizes.{slotSize}
 use Rattle.sync_rules.specs.Matching.{spell}
 use Rattle.sync_rules.specs.Frames.{Frame}
 
@@ -22,4 +23,4 @@ envelopeOf xs = bytesOf 48 xs
 unfoldable pub laid : List ℕ → ℕ → List Frame → List ℕ
 unfolding bytesOf
 laid room k [] = room
-laid room k (f ∷ fs) = laid (sets room (432 * k) (envelopeOf (f .bits) ++ f .reliabilities)) (suc k) fs
+laid room k (f ∷ fs) = laid (sets room (slotSize * k) (envelopeOf (f .bits) ++ f .reliabilities)) (suc k) fs

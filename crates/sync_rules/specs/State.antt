@@ -13,7 +13,7 @@ pub record State : Type 0 where
   pub held : List ℕ  -- the restorable bits, then the pending ones
   pub reliabilities : List ℕ  -- one for each held bit
   pub restorable : ℕ  -- how many of the held bits are restorable: 0, 1 or 2
-  pub figures : StreamFigures  -- all that it has counted
+  pub figures : StreamFigures  -- what it has counted, and whether it holds a lock
 
 abbrev pub pending : State → List ℕ
 pending m = drop (m .restorable) (m .held)

@@ -7,6 +7,16 @@ ghost use Rattle.sync_rules.specs.Reliabilities.{reliabilityRule};
 ghost use Rattle.sync_rules.specs.Statements.{rules, settledRule, gapRule, endRule, quietRule};
 ghost use Rattle.sync_rules.specs.Slips.{moveRule};
 
+mod sizes;
+
+pub use sizes::IN_PLACE_BITS;
+pub use sizes::MOST_DIBITS;
+pub use sizes::MOST_HELD;
+pub use sizes::OUT_OF_PLACE_BITS;
+pub use sizes::ROOM_SIZE;
+pub use sizes::SEARCH_BITS;
+pub use sizes::SLOT_SIZE;
+
 // How a frame slipped, in bits: how far its front was moved to follow a slip (-2, 0 or 2), and how far its second and third segment lie off their places
 // behind it (-2, 0 or 2; -4 to 4, the second's shift included). All zero for a frame in place.
 pub struct Moves {
@@ -33,7 +43,7 @@ pub struct StreamFigures {
     pub frames: u64, // frames sent
     pub synchronised: u64, // those of them that showed two markers
     pub failures: u8, // frames in a row that did not
-    pub locked: bool,
+    pub locked: bool, // a lock is held
     pub soft: bool, // a soft push has been made
 }
 

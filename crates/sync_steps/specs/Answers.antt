@@ -2,8 +2,9 @@
 -- Assumes nothing.
 use mathlib.Core.List.{[]}
 use mathlib.Core.Bool.{cond}
-use Prim.Native.Nat.{ℕ, _^_}
+use Prim.Native.Nat.{ℕ}
 use lib.Dec.{leb, ltb}
+use Rattle.sync_rules.specs.Sizes.{roomSize, mostDibits}
 use Rattle.bits.specs.declared.Refusal.the-variants.{Dibit, FrameRoom, StreamEnd}
 use Rattle.sync_steps.specs.declared.Push.{Push}
 use Rattle.sync_steps.specs.declared.Push.the-variants.{Taken, Refused}
@@ -14,8 +15,8 @@ use Rattle.sync_rules.specs.Pushes.{Out, step}
 unfoldable pub answerBy : (room dibit taken : ℕ) → Push
 answerBy room dibit taken =
     cond (ltb 3 dibit) (Refused Dibit)
-    (cond (ltb room 1296) (Refused FrameRoom)
-    (cond (leb (2 ^ 40) taken) (Refused StreamEnd) Taken))
+    (cond (ltb room roomSize) (Refused FrameRoom)
+    (cond (leb mostDibits taken) (Refused StreamEnd) Taken))
 
 -- of the push x on the state m
 unfoldable pub answerTo : ℕ → Input → State → Push

@@ -3,7 +3,8 @@
 use mathlib.Core.Path.{_≡_}
 use mathlib.Core.List.{List}
 use mathlib.Core.Bool.{Bool, true, false}
-use Prim.Native.Nat.{ℕ, _+_, _≤_, _<_}
+use Prim.Native.Nat.{ℕ, _+_, _-_, _≤_, _<_}
+use Rattle.sync_rules.specs.Sizes.{inPlaceBits, searchBits}
 use Rattle.sync_numbers.specs.declared.numbers.Numbers.{Numbers}
 use Rattle.sync_frames.specs.declared.frames.Drained.{Drained}
 use Rattle.sync_steps.specs.declared.pushes.Given.{Given}
@@ -35,7 +36,7 @@ pub record Brought (bits reliabilities bits′ reliabilities′ : List ℕ) (c :
 
 -- too few bits are pending for a frame, and without a lock for a search
 abbrev pub Waiting : Numbers → Type 0
-Waiting c = (c .figures .locked ≡ true → c .pending < 384) × (c .pending ≤ 1151)
+Waiting c = (c .figures .locked ≡ true → c .pending < inPlaceBits) × (c .pending ≤ searchBits - 1)
 
 pub record Searched (bits : List ℕ) (c r : Numbers) : Type 0 where
   pub sound : Sound r
@@ -44,7 +45,7 @@ pub record Searched (bits : List ℕ) (c r : Numbers) : Type 0 where
   pub slips : r .figures .later + r .figures .earlier ≡ c .figures .later + c .figures .earlier
   pub frames : r .figures .frames ≡ c .figures .frames
   pub fails : r .figures .locked ≡ true → r .figures .failures ≤ 2
-  pub few : r .figures .locked ≡ false → r .pending ≤ 1151
+  pub few : r .figures .locked ≡ false → r .pending ≤ searchBits - 1
 
 -- the search and the frames of a push whose bits are brought
 abbrev pub SentAfter : List ℕ → List ℕ → List ℕ → List ℕ → Numbers → Drained → Type 0

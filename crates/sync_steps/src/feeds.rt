@@ -1,8 +1,9 @@
 // Many pushes into lent rings: what is to be pushed, and the loop of every feed.
 ghost use mathlib.Core.Path.{_≡_};
 ghost use mathlib.Core.List.{[], _∷_};
-ghost use Prim.Native.Nat.{_+_, _^_, _<_, _≤_};
+ghost use Prim.Native.Nat.{_+_, _<_, _≤_};
 ghost use lib.ListN.{length, getD, take, drop};
+ghost use Rattle.sync_rules.specs.Sizes.{mostDibits};
 ghost use Rattle.sync_numbers.specs.View.{Steady, Few, Rings, viewOf};
 ghost use Rattle.sync_steps.specs.Feeds.{GivenBy, FedInto, fedOf, hardly, softly, unpacked, inputsOf, noneGiven, intoOf};
 use super::Push;
@@ -17,6 +18,7 @@ use super::pushes::soft_given;
 use sync_frames::Drained;
 use sync_frames::nothing;
 use sync_numbers::Numbers;
+use sync_rules::MOST_HELD;
 
 // What is fed: hard dibits, dibits with two reliabilities each, bytes of four hard dibits, or of such bytes so many dibits at most.
 pub enum Source {
@@ -75,7 +77,7 @@ fn dibit_of(byte: u8, k: usize) -> u8
 
 // Hard dibit `used` from dibit `start` of packed bytes on.
 fn packed_at(bytes: &[u8], start: usize, used: usize) -> Given
-    requires { ⌜ used ≤ 2 ^ 40 ⌝ }
+    requires { ⌜ used ≤ mostDibits ⌝ }
     ensures { λ r. ⌜ GivenBy (hardly (drop start (unpacked (now (bytes .entry))))) used r ⌝ }
 {
     let at = start / 4 + (start % 4 + used) / 4;
@@ -88,7 +90,7 @@ fn packed_at(bytes: &[u8], start: usize, used: usize) -> Given
 
 // The same, of `most` dibits.
 fn stretch_at(bytes: &[u8], start: usize, most: usize, used: usize) -> Given
-    requires { ⌜ used ≤ 2 ^ 40 ⌝ }
+    requires { ⌜ used ≤ mostDibits ⌝ }
     ensures { λ r. ⌜ GivenBy (hardly (take most (drop start (unpacked (now (bytes .entry)))))) used r ⌝ }
 {
     if used < most {
@@ -122,7 +124,7 @@ fn hard_at(dibits: &[u8], used: usize) -> Given
 
 // Push `used` of a source.
 fn push_of(source: Source, dibits: &[u8], reliable: &[u8], start: usize, used: usize) -> Given
-    requires { ⌜ used ≤ 2 ^ 40 ⌝ }
+    requires { ⌜ used ≤ mostDibits ⌝ }
     ensures { λ r. ⌜ GivenBy (inputsOf source (now (dibits .entry)) (now (reliable .entry)) start) used r ⌝ }
 {
     match source {
@@ -135,8 +137,8 @@ fn push_of(source: Source, dibits: &[u8], reliable: &[u8], start: usize, used: u
 
 // The pushes of a source, up to the first that sends frames or is refused. Most of them only bring their bits: no answer is made for those.
 pub fn feed_into(
-    bits: &mut [u8; 1155],
-    reliabilities: &mut [u8; 1155],
+    bits: &mut [u8; MOST_HELD],
+    reliabilities: &mut [u8; MOST_HELD],
     k: Numbers,
     source: Source,
     dibits: &[u8],

@@ -2,8 +2,9 @@
 ghost use mathlib.Core.Path.{_≡_};
 ghost use mathlib.Core.Bool.{true, false};
 ghost use mathlib.Core.List.{List};
-ghost use Prim.Native.Nat.{ℕ, _+_, _-_, _/_, _%_, _^_, _<_, _≤_};
+ghost use Prim.Native.Nat.{ℕ, _+_, _-_, _*_, _/_, _%_, _<_, _≤_};
 ghost use lib.ListN.{length, set};
+ghost use Rattle.sync_rules.specs.Sizes.{searchBits, mostHeld, roomSize, mostDibits};
 ghost use Rattle.bits.specs.Bit.{Bits};
 ghost use Rattle.sync_rings.specs.Ring.{ring};
 ghost use Rattle.sync_numbers.specs.View.{Sound, Low, Steady, Rings, viewOf};
@@ -20,6 +21,16 @@ use sync_numbers::bits_passed;
 use sync_numbers::dibit_taken;
 use sync_numbers::dropped;
 use sync_rings::three_frames;
+use sync_rules::IN_PLACE_BITS;
+use sync_rules::MOST_DIBITS;
+use sync_rules::MOST_HELD;
+use sync_rules::ROOM_SIZE;
+use sync_rules::SEARCH_BITS;
+
+// The most bits that can be pending with nothing to do: with a lock, and without one.
+const LOCKED_IDLE: usize = IN_PLACE_BITS - 1;
+
+const SEARCHING_IDLE: usize = SEARCH_BITS - 1;
 
 // What a push brings: a dibit, the reliabilities of its two bits, and whether it is a soft push. `more` is false where there is none to make.
 pub struct Given {
@@ -58,7 +69,7 @@ pub fn soft_given(dibit: u8, first: u8, second: u8) -> Given
 
 // Counts the two bits of a push, soft or not, as pending.
 pub fn appended(c: Numbers, soft: bool) -> Numbers
-    requires { ⌜ Steady c ⌝ ∗ ⌜ c .pending ≤ 1151 ⌝ ∗ ⌜ c .figures .taken < 2 ^ 40 ⌝ }
+    requires { ⌜ Steady c ⌝ ∗ ⌜ c .pending ≤ searchBits - 1 ⌝ ∗ ⌜ c .figures .taken < mostDibits ⌝ }
     ensures { λ r. ⌜ r ≡ appendedTo c soft ⌝ }
 {
     let mut d = c;
@@ -70,9 +81,9 @@ pub fn appended(c: Numbers, soft: bool) -> Numbers
 }
 
 // Finds the first of `tries` places from `base` on where three frames show themselves, or gives `tries`.
-fn find(bits: &[u8; 1155], base: usize, tries: usize) -> usize
+fn find(bits: &[u8; MOST_HELD], base: usize, tries: usize) -> usize
     requires { ⌜ Bits (now bits) ⌝ ∗ ⌜ base < 2000 ⌝ ∗ ⌜ tries < 2000 ⌝ }
-    ensures { λ r. ⌜ ((n : ℕ) → ((p : ℕ) → p < tries → p + 1152 ≤ n) → r ≡ firstOf (locksAt (ring (now (bits .entry)) base n)) 0 tries) ⌝ }
+    ensures { λ r. ⌜ ((n : ℕ) → ((p : ℕ) → p < tries → p + searchBits ≤ n) → r ≡ firstOf (locksAt (ring (now (bits .entry)) base n)) 0 tries) ⌝ }
     ensures few { λ r. ⌜ r ≤ tries ⌝ }
 {
     let mut pos: usize = 0;
@@ -88,16 +99,16 @@ fn find(bits: &[u8; 1155], base: usize, tries: usize) -> usize
 
 // Tells from how many places on 1,152 bits are pending.
 fn tries_of(pending: usize) -> usize
-    ensures { λ r. ⌜ r ≡ pending - 1151 ⌝ }
+    ensures { λ r. ⌜ r ≡ pending - (searchBits - 1) ⌝ }
 {
-    if pending < 1152 {
+    if pending < SEARCH_BITS {
         return 0;
     }
-    pending - 1151
+    pending - SEARCHING_IDLE
 }
 
 // Searches where there is no lock: passes the bits up to the first place where three frames show themselves.
-fn search(bits: &[u8; 1155], c: Numbers) -> Numbers
+fn search(bits: &[u8; MOST_HELD], c: Numbers) -> Numbers
     requires { ⌜ Bits (now bits) ⌝ ∗ ⌜ Sound c ⌝ ∗ ⌜ Low c ⌝ ∗ ⌜ (c .figures .locked ≡ true → c .figures .failures ≤ 2) ⌝ }
     ensures { λ r. ⌜ Searched (now (bits .entry)) c r ⌝ }
 {
@@ -116,19 +127,19 @@ fn search(bits: &[u8; 1155], c: Numbers) -> Numbers
 
 // Gives a place of the ring, round its end.
 fn in_ring(place: usize) -> usize
-    requires { ⌜ place < 2310 ⌝ }
-    ensures { λ r. ⌜ r ≡ place % 1155 ⌝ }
+    requires { ⌜ place < 2 * mostHeld ⌝ }
+    ensures { λ r. ⌜ r ≡ place % mostHeld ⌝ }
 {
-    if place < 1155 {
+    if place < MOST_HELD {
         return place;
     }
-    place - 1155
+    place - MOST_HELD
 }
 
 // Puts two values behind the held ones, which end before place `end`.
-pub fn put(ring: &mut [u8; 1155], end: usize, first: u8, second: u8)
-    requires { ⌜ length (now ring) ≡ 1155 ⌝ ∗ ⌜ end < 2309 ⌝ }
-    ensures { λ r. ⌜ now (ring .exit) ≡ set (set (now (ring .entry)) (end % 1155) first) ((end + 1) % 1155) second ⌝ }
+pub fn put(ring: &mut [u8; MOST_HELD], end: usize, first: u8, second: u8)
+    requires { ⌜ length (now ring) ≡ mostHeld ⌝ ∗ ⌜ end < 2 * mostHeld - 1 ⌝ }
+    ensures { λ r. ⌜ now (ring .exit) ≡ set (set (now (ring .entry)) (end % mostHeld) first) ((end + 1) % mostHeld) second ⌝ }
 {
     let p = in_ring(end);
     let q = in_ring(end + 1);
@@ -138,12 +149,12 @@ pub fn put(ring: &mut [u8; 1155], end: usize, first: u8, second: u8)
 
 // Brings the bits of a push and their reliabilities into the rings.
 pub(crate) fn brought(
-    bits: &mut [u8; 1155],
-    reliabilities: &mut [u8; 1155],
+    bits: &mut [u8; MOST_HELD],
+    reliabilities: &mut [u8; MOST_HELD],
     k: Numbers,
     x: Given,
 ) -> Numbers
-    requires { ⌜ Steady k ⌝ ∗ ⌜ (k .pending ≤ 1151) × (k .figures .taken < 2 ^ 40) ⌝ ∗ ⌜ Rings (now bits) (now reliabilities) ⌝ ∗ ⌜ x .dibit < 4 ⌝ }
+    requires { ⌜ Steady k ⌝ ∗ ⌜ (k .pending ≤ searchBits - 1) × (k .figures .taken < mostDibits) ⌝ ∗ ⌜ Rings (now bits) (now reliabilities) ⌝ ∗ ⌜ x .dibit < 4 ⌝ }
     ensures { λ r. ⌜ Brought (now (bits .entry)) (now (reliabilities .entry)) (now (bits .exit)) (now (reliabilities .exit)) k (inputOf x) r ⌝ }
 {
     let end = k.first + (k.restorable + k.pending);
@@ -159,10 +170,10 @@ pub fn answer_to(taken: u64, dibit: u8, room: usize) -> Push
     if 3 < dibit {
         return Push::Refused(Refusal::Dibit);
     }
-    if room < 1296 {
+    if room < ROOM_SIZE {
         return Push::Refused(Refusal::FrameRoom);
     }
-    if 1099511627776 <= taken {
+    if MOST_DIBITS <= taken {
         return Push::Refused(Refusal::StreamEnd);
     }
     Push::Taken
@@ -183,9 +194,9 @@ pub fn enough(k: Numbers) -> bool
     ensures { λ r. ⌜ (r ≡ false → Waiting k) ⌝ }
 {
     if k.figures.locked {
-        return 384 <= k.pending;
+        return IN_PLACE_BITS <= k.pending;
     }
-    1152 <= k.pending
+    SEARCH_BITS <= k.pending
 }
 
 // Gives half of what is left of `most`, rounded down.
@@ -203,19 +214,19 @@ pub fn quiet_of(k: Numbers) -> usize
     ensures { λ r. ⌜ ((bits reliabilities : List ℕ) → r ≡ quiet (viewOf bits reliabilities k)) ⌝ }
 {
     if k.figures.locked {
-        return half_left(383, k.pending);
+        return half_left(LOCKED_IDLE, k.pending);
     }
-    half_left(1151, k.pending)
+    half_left(SEARCHING_IDLE, k.pending)
 }
 
 // What follows once the bits of a push are brought: a search where there is no lock, then the frames that are ready.
 pub fn sends<'a>(
-    bits: &'a [u8; 1155],
-    reliabilities: &'a [u8; 1155],
+    bits: &'a [u8; MOST_HELD],
+    reliabilities: &'a [u8; MOST_HELD],
     k: Numbers,
     room: &mut [u8],
 ) -> Drained
-    requires { ⌜ Bits (now bits) ⌝ ∗ ⌜ Steady k ⌝ ∗ ⌜ 1296 ≤ length (now room) ⌝ }
+    requires { ⌜ Bits (now bits) ⌝ ∗ ⌜ Steady k ⌝ ∗ ⌜ roomSize ≤ length (now room) ⌝ }
     ensures { λ r. ⌜ SentAfter (now (bits .entry)) (now (reliabilities .entry)) (now (room .entry)) (now (room .exit)) k r ⌝ }
 {
     let found = search(bits, k);
