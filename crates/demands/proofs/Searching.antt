@@ -15,6 +15,7 @@ use Rattle.sync.specs.View.{view}
 use Rattle.sync_steps.specs.Answers.{answerTo}
 use Rattle.sync_call_rules.specs.Calls.{Call, History, stateOf, accepted, Got, handed, shownAs, streamOf, placeIn, lastGot, firstGot, gotInARow}
 use Rattle.sync_call_rules.specs.Statements.{callsFollow, demandCalls, movesGot, moveCalls}
+use Rattle.sync_call_rules.proofs.Shown.{shown-length}
 use Rattle.sync_rules.specs.Slips.{SlippedBy, netOfAll, slipsOfAll}
 use Rattle.sync_rules.specs.Matching.{errors}
 use Rattle.sync_rules.specs.Moves.{noMoves}
@@ -126,11 +127,6 @@ unfolding shownAs offsets
 shown-offset [] i = refl
 shown-offset (f ∷ fs) zero = refl
 shown-offset (f ∷ fs) (suc i) = shown-offset fs i
-
-shown-length : (fs : List Frame) → length (shownAs fs) ≡ length fs
-unfolding shownAs
-shown-length [] = refl
-shown-length (f ∷ fs) = ap suc (shown-length fs)
 
 module _ (xs : List Input) (g : Gaps xs) where
   offset-sum : (i : ℕ) → i < length (sentBy [] xs) → getD (offsets (sentBy [] xs)) i 0 ≡ total (take (suc i) (between 0 xs start)) + 384 * i

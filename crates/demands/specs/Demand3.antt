@@ -17,6 +17,7 @@ use Rattle.sync_call_rules.specs.Calls.{Call, History, stateOf, accepted, Got, 
 use Rattle.sync_call_rules.specs.Calls.{answerOf, Meets}
 use Rattle.sync_rules.specs.Matching.{locksAt, inPlace, errors}
 use Rattle.sync_rules.specs.Moves.{noMoves}
+use Rattle.sync_rules.specs.Frames.{noHead}
 use Rattle.sync_rules.specs.State.{Input, start, pending, slips, netSlip, bring}
 use Rattle.sync_rules.specs.Pushes.{search, drain}
 use Rattle.sync_rules.specs.Room.{envelopeOf}
@@ -33,7 +34,7 @@ pub record New (s : Synchroniser) : Type 0 where
 
 -- frame j of those handed out
 abbrev pub frame : List Got → ℕ → Got
-frame fs j = getD fs j (record { head = record { offset = 0; matched = false; errors = 0; moves = noMoves }; envelope = [] })
+frame fs j = getD fs j (record { head = noHead; envelope = [] })
 
 -- ---- demand 3
 

@@ -11,7 +11,6 @@ use Rattle.sync.specs.declared.Synchroniser.{Synchroniser}
 use Rattle.sync.specs.declared.Fed.{Fed}
 use Rattle.sync_call_rules.specs.Calls.{feeding, Got, History, Meets, stateOf, accepted, madeBy, answerOf, leftBy, handed, slots, shownAs}
 use Rattle.sync_call_rules.specs.Statements.{Follows, callsFollow}
-use Rattle.sync_frames.specs.Frames.{headOf, headsOf}
 use Rattle.sync_steps.specs.Answers.{answerTo, pushOf}
 use Rattle.sync_steps.specs.Feeds.{FedOut, fedOf, oneMore, unlessSent, unlessRefused}
 use Rattle.sync.specs.Feeds.{FedBy}
@@ -19,11 +18,11 @@ use Rattle.sync_steps.specs.declared.Push.{Push}
 use Rattle.sync_steps.specs.declared.Push.the-variants.{Taken, Refused}
 use Rattle.sync_call_rules.proofs.Feeding.{feed-rules}
 use Rattle.sync_call_rules.proofs.Slots.{drain-most}
+use Rattle.sync_call_rules.proofs.Shown.{shown-append, shown-length, heads-long}
 use Rattle.sync_rules.specs.State.{State, Input, start, bring}
-use Rattle.sync_rules.specs.Frames.{Frame}
+use Rattle.sync_rules.specs.Frames.{Frame, noHead}
 use Rattle.sync_rules.specs.Pushes.{Out, run, search, step}
 use Rattle.sync_rules.specs.Demand.{sentBy}
-use Rattle.sync_rules.specs.Room.{envelopeOf}
 use Rattle.sync_rules.specs.Counts.{stateAfter}
 use Rattle.sync_rules.proofs.Hunts.{run-next, run-sent}
 use Rattle.sync_rules.proofs.Reaching.{all-rules}
@@ -31,7 +30,7 @@ use Rattle.reception.specs.declared.Reception.{Reception}
 use Rattle.sync_rules.specs.declared.Head.{Head}
 use Rattle.reception.specs.declared.Next.{Next}
 use Rattle.reception.specs.declared.Next.the-variants as next
-use Rattle.reception.specs.Receptions.{Reached, LastSent, SoundReception, noHead, frameOf, gives, NextOf}
+use Rattle.reception.specs.Receptions.{Reached, LastSent, SoundReception, frameOf, gives, NextOf}
 
 pub sent-start : (s : Synchroniser) (heads : List Head) (room : List ℕ) → view s ≡ start → LastSent s 0 heads room
 unfolding run sentBy shownAs slots
@@ -119,23 +118,6 @@ pub frames-few : (r : Reception) → SoundReception r → r .frames ≤ 2 ^ 42
 frames-few r g = omega (arith, g .balance, g .waiting, g .valid .steady .sound .grid, g .valid .steady .sound .tide, g .valid .steady .sound .taken-few)
 
 -- ---- the frames of a feed, as its caller gets them
-shown-append : (fs gs : List Frame) → shownAs (fs ++ gs) ≡ shownAs fs ++ shownAs gs
-unfolding shownAs
-shown-append [] gs = refl
-shown-append (f ∷ fs) gs = ap (λ (l : List Got). record { head = headOf f; envelope = envelopeOf (f .bits) } ∷ l) (shown-append fs gs)
-
-shown-length : (fs : List Frame) → length (shownAs fs) ≡ length fs
-unfolding shownAs
-shown-length [] = refl
-shown-length (f ∷ fs) = ap suc (shown-length fs)
-
-heads-long : (n : ℕ) (fs : List Frame) → length (headsOf n fs) ≡ n
-unfolding headsOf
-heads-long zero [] = refl
-heads-long zero (f ∷ fs) = refl
-heads-long (suc n) [] = ap suc (heads-long n [])
-heads-long (suc n) (f ∷ fs) = ap suc (heads-long n fs)
-
 module _ (follow : callsFollow) (s : Synchroniser) (v : ValidSynchroniser s) (xs : List Input) (room left : List ℕ) (f : Fed) (fed : FedBy room left (fedOf (length room) xs (view s)) f) where
   abbrev ran : List Input
   ran = take (f .used) xs

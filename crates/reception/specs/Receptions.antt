@@ -12,7 +12,7 @@ use Rattle.sync_rules.specs.State.{State, Input}
 use Rattle.sync_rules.specs.Counts.{stateAfter}
 use Rattle.sync_rules.specs.Demand.{sentBy}
 use Rattle.sync_rules.specs.declared.Head.{Head}
-use Rattle.sync_rules.specs.Moves.{noMoves}
+use Rattle.sync_rules.specs.Frames.{noHead}
 use Rattle.reception.specs.declared.Heard.{Heard}
 use Rattle.reception.specs.declared.Next.{Next}
 use Rattle.reception.specs.declared.Next.the-variants.{Frame, NoFrame}
@@ -47,9 +47,6 @@ pub record SoundReception (r : Reception) : Type 0 where
 abbrev pub gives : Next → ℕ
 gives (Frame h) = 1
 gives NoFrame = 0
-
-abbrev pub noHead : Head
-noHead = record { offset = 0; matched = false; errors = 0; moves = noMoves }
 
 -- a frame as a caller of the synchroniser gets it
 abbrev pub frameOf : Head → List ℕ → Got

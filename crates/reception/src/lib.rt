@@ -13,7 +13,7 @@ use sync::Synchroniser;
 use sync_rules::Head;
 use sync_rules::ROOM_SIZE;
 use sync_rules::SLOT_SIZE;
-use sync_rules::no_moves;
+use sync_rules::no_head;
 
 // The file, whether it may hold more, and the piece that was read last, with how many of its dibits are taken.
 // The synchroniser, the frames of its last push, and how many of them were given. How many frames were given in all, and the last of them.
@@ -57,13 +57,7 @@ pub fn opened(fd: i32) -> Reception
     ensures ready { λ r. ⌜ SoundReception r ⌝ }
     ensures given { λ r. ⌜ r .frames ≡ 0 ⌝ }
 {
-    let moves = no_moves();
-    let none = Head {
-        offset: 0,
-        matched: false,
-        errors: 0,
-        moves,
-    };
+    let none = no_head();
     let sync = Synchroniser::new();
     Reception {
         fd,

@@ -37,6 +37,7 @@ use Rattle.sync_call_rules.specs.Feeds.{FeedRule}
 use Rattle.sync.specs.Feeds.{FedBy}
 use Rattle.sync_steps.specs.Feeds.{FedOut, oneMore, unlessSent, unlessRefused, fedOf}
 use Rattle.sync_call_rules.proofs.Feeding.{feed-rules}
+use Rattle.sync_call_rules.proofs.Shown.{shown-append}
 use Rattle.sync_call_rules.proofs.Slots.{none-fit, Fit, drain-fit, drain-most, read-slots}
 
 -- ---- madeBy call
@@ -182,11 +183,6 @@ does s (pushing x room left r) a = does-push s x room left r a
 does s (feeding xs room left f) a = does-feed s xs room left f a
 
 -- ---- a history
-shown-append : (fs gs : List Frame) → shownAs (fs ++ gs) ≡ shownAs fs ++ shownAs gs
-unfolding shownAs
-shown-append [] gs = refl
-shown-append (f ∷ fs) gs = ap (λ (l : List Got). record { head = headOf f; envelope = bytesOf 48 (f .bits) } ∷ l) (shown-append fs gs)
-
 pub follows : (cs : List Call) (s : Synchroniser) → ValidSynchroniser s → History s cs → Follows s cs
 unfolding History stateOf accepted handed run shownAs
 follows [] s v h = record { valid = v; next = refl; sent = refl }

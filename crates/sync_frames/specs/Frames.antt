@@ -15,8 +15,7 @@ use Rattle.sync_rules.specs.declared.Head.{Head}
 use Rattle.sync_rings.specs.Ring.{ring}
 use Rattle.sync_numbers.specs.View.{viewOf, Sound, Low, Steady, Few}
 use Rattle.sync_rules.specs.Matching.{inPlace}
-use Rattle.sync_rules.specs.Moves.{noMoves}
-use Rattle.sync_rules.specs.Frames.{Frame, Sent, ready, frontMove, follow}
+use Rattle.sync_rules.specs.Frames.{Frame, Sent, noHead, ready, frontMove, follow}
 use Rattle.sync_rules.specs.Pushes.{Out}
 use Rattle.sync_rules.specs.Room.{bytesOf, laid}
 
@@ -75,7 +74,7 @@ headOf f = record { offset = f .offset; matched = f .matched; errors = f .errors
 -- n heads: those of the frames, then zeros
 unfoldable pub headsOf : ℕ → List Frame → List Head
 headsOf zero fs = []
-headsOf (suc n) [] = record { offset = 0; matched = false; errors = 0; moves = noMoves } ∷ headsOf n []
+headsOf (suc n) [] = noHead ∷ headsOf n []
 headsOf (suc n) (f ∷ fs) = headOf f ∷ headsOf n fs
 
 -- the state, n heads and the room, from slot k on, are those of the frames that o sends

@@ -1,6 +1,7 @@
 // Frames: when one is ready, its front and segments, and up to three of them a push.
 ghost use mathlib.Core.Path.{_≡_};
 ghost use mathlib.Core.Bool.{false};
+ghost use mathlib.Core.List.{[], _∷_};
 ghost use Prim.Native.Nat.{_+_, _-_, _*_, _<_, _≤_};
 ghost use lib.ListN.{length};
 ghost use Rattle.sync_rules.specs.Sizes.{outOfPlaceBits, searchBits, slotSize, roomSize};
@@ -10,7 +11,7 @@ ghost use Rattle.sync_numbers.specs.View.{Sound, Low, Steady, viewOf};
 ghost use Rattle.sync_frames.specs.Frames.{Fronted, Sendable, SentBy, Ready, Looked, DrainedBy, drainedOf, nothingOf};
 ghost use Rattle.sync_rules.specs.Matching.{inPlace};
 ghost use Rattle.sync_rules.specs.Moves.{Move, movesAt};
-ghost use Rattle.sync_rules.specs.Frames.{sendAt, send};
+ghost use Rattle.sync_rules.specs.Frames.{sendAt, send, noHead};
 ghost use Rattle.sync_rules.specs.Pushes.{drain};
 use sync_numbers::Numbers;
 use sync_numbers::dropped;
@@ -32,6 +33,8 @@ use sync_rules::MOST_HELD;
 use sync_rules::Moves;
 use sync_rules::OUT_OF_PLACE_BITS;
 use sync_rules::SLOT_SIZE;
+use sync_rules::no_head;
+use sync_rules::no_moves;
 
 // Where the third slot of the room begins.
 const THIRD_SLOT: usize = 2 * SLOT_SIZE;
@@ -134,11 +137,7 @@ fn frame<'a>(
     ensures { λ r. ⌜ SentBy (now (bits .entry)) (now (reliabilities .entry)) (now (room .entry)) (now (room .exit)) to (c .pending + 2) (send (viewOf (now (bits .entry)) (now (reliabilities .entry)) c)) r ⌝ }
 {
     if placed {
-        let moves = Moves {
-            front: 0,
-            second: 0,
-            third: 0,
-        };
+        let moves = no_moves();
         return frame_at(bits, reliabilities, c, room, to, 128, 256, moves);
     }
     let d = front(bits, c);
@@ -188,14 +187,38 @@ fn look(bits: &[u8; MOST_HELD], c: Numbers) -> Readiness
     }
 }
 
-// Hands back the frames with these heads, and the numbers that they leave.
-fn frames_out(numbers: Numbers, count: usize, heads: [Head; 3]) -> Drained
-    ensures { λ r. ⌜ r ≡ drainedOf numbers count heads ⌝ }
+// Hands back three frames, and the numbers that they leave.
+fn three_out(numbers: Numbers, first: Head, second: Head, third: Head) -> Drained
+    ensures { λ r. ⌜ r ≡ drainedOf numbers 3 (first ∷ second ∷ third ∷ []) ⌝ }
 {
     Drained {
         numbers,
-        count,
-        heads,
+        count: 3,
+        heads: [first, second, third],
+    }
+}
+
+// Hands back two.
+fn two_out(numbers: Numbers, first: Head, second: Head) -> Drained
+    ensures { λ r. ⌜ r ≡ drainedOf numbers 2 (first ∷ second ∷ noHead ∷ []) ⌝ }
+{
+    let none = no_head();
+    Drained {
+        numbers,
+        count: 2,
+        heads: [first, second, none],
+    }
+}
+
+// Hands back one.
+fn one_out(numbers: Numbers, first: Head) -> Drained
+    ensures { λ r. ⌜ r ≡ drainedOf numbers 1 (first ∷ noHead ∷ noHead ∷ []) ⌝ }
+{
+    let none = no_head();
+    Drained {
+        numbers,
+        count: 1,
+        heads: [first, none, none],
     }
 }
 
@@ -203,17 +226,7 @@ fn frames_out(numbers: Numbers, count: usize, heads: [Head; 3]) -> Drained
 pub fn nothing(numbers: Numbers) -> Drained
     ensures { λ r. ⌜ r ≡ nothingOf numbers ⌝ }
 {
-    let moves = Moves {
-        front: 0,
-        second: 0,
-        third: 0,
-    };
-    let none = Head {
-        offset: 0,
-        matched: false,
-        errors: 0,
-        moves,
-    };
+    let none = no_head();
     Drained {
         numbers,
         count: 0,
@@ -231,17 +244,6 @@ fn three<'a>(
     requires { ⌜ Bits (now bits) ⌝ ∗ ⌜ Steady c ⌝ ∗ ⌜ roomSize ≤ length (now room) ⌝ ∗ ⌜ (c .figures .locked ≡ false → c .pending ≤ searchBits - 1) ⌝ }
     ensures { λ r. ⌜ DrainedBy (now (bits .entry)) (now (reliabilities .entry)) (now (room .entry)) (now (room .exit)) 0 3 (drain 3 (viewOf (now (bits .entry)) (now (reliabilities .entry)) c)) (r .numbers) (r .count) (r .heads) ⌝ }
 {
-    let moves = Moves {
-        front: 0,
-        second: 0,
-        third: 0,
-    };
-    let none = Head {
-        offset: 0,
-        matched: false,
-        errors: 0,
-        moves,
-    };
     let a = look(bits, c);
     if a.ready {
         let f = frame(bits, reliabilities, c, &mut *room, 0, a.placed);
@@ -257,11 +259,11 @@ fn three<'a>(
                 let h = frame(bits, reliabilities, c2, &mut *room, THIRD_SLOT, d.placed);
                 let c3 = h.numbers;
                 let h3 = h.head;
-                return frames_out(c3, 3, [h1, h2, h3]);
+                return three_out(c3, h1, h2, h3);
             }
-            return frames_out(c2, 2, [h1, h2, none]);
+            return two_out(c2, h1, h2);
         }
-        return frames_out(c1, 1, [h1, none, none]);
+        return one_out(c1, h1);
     }
     nothing(c)
 }

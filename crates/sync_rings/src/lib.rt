@@ -3,7 +3,7 @@
 mod markers; // markers.rt: reading the ring of bits
 mod room; // room.rt: writing a frame into the lent room
 
-pub use markers::Reading;
+pub use markers::MarkerSeen;
 pub use markers::in_place;
 pub use markers::marker;
 pub use markers::matches_at;

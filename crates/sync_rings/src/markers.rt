@@ -11,7 +11,7 @@ ghost use Rattle.sync_rules.specs.Moves.{moved, moveTo};
 use sync_rules::MOST_HELD;
 
 // Whether a marker matches, and how many of its 16 bits are wrong.
-pub struct Reading {
+pub struct MarkerSeen {
     pub matched: bool,
     pub errors: u32,
 }
@@ -43,7 +43,7 @@ pub(crate) fn spelled(bits: &[u8; MOST_HELD], from: usize, count: usize) -> u16
 }
 
 // Reads the marker of a segment at place `from`.
-pub fn marker(bits: &[u8; MOST_HELD], from: usize, segment: usize) -> Reading
+pub fn marker(bits: &[u8; MOST_HELD], from: usize, segment: usize) -> MarkerSeen
     requires { ⌜ Bits (now bits) ⌝ ∗ ⌜ segment < 3 ⌝ }
     ensures ok { λ r. ⌜ Seen (now (bits .entry)) from 16 (r .matched) (λ xs p. matches xs p segment) ⌝ }
     ensures errors { λ r. ⌜ Seen (now (bits .entry)) from 16 (r .errors) (λ xs p. errors xs p segment) ⌝ }
@@ -52,7 +52,7 @@ pub fn marker(bits: &[u8; MOST_HELD], from: usize, segment: usize) -> Reading
     let value = spelled(bits, from, 16);
     let markers = coding::markers();
     let expected = markers[segment];
-    Reading {
+    MarkerSeen {
         matched: value % 16384 == expected % 16384,
         errors: u16::count_ones(value ^ expected),
     }

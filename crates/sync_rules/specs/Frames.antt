@@ -1,15 +1,16 @@
 -- A frame: when one is ready, how its front and its segments are found, what is said of it, and the state that it leaves.
 -- Assumes nothing.
 use mathlib.Core.List.{List, [], _++_}
-use mathlib.Core.Bool.{Bool, cond, _&&_, _||_}
+use mathlib.Core.Bool.{Bool, false, cond, _&&_, _||_}
 use Prim.Native.Nat.{ℕ, _+_}
 use lib.ListN.{length, take, drop}
 use lib.Dec.{leb, eqb}
+use Rattle.sync_rules.specs.declared.Head.{Head}
 use Rattle.sync_rules.specs.declared.Moves.{Moves}
 use Rattle.sync_rules.specs.Sizes.{inPlaceBits, outOfPlaceBits}
 use Rattle.sync_rules.specs.Matching.{matches, errors, twoOf, inPlace}
 use Rattle.sync_rules.specs.Figures.{frameSent}
-use Rattle.sync_rules.specs.Moves.{Move, Stay, Later, Earlier, moved, inBits, movesAt, moveBy, moveTo}
+use Rattle.sync_rules.specs.Moves.{Move, Stay, Later, Earlier, moved, inBits, movesAt, noMoves, moveBy, moveTo}
 use Rattle.sync_rules.specs.State.{State, pending, withFigures, pass, restore, counted}
 
 pub record Frame : Type 0 where
@@ -19,6 +20,10 @@ pub record Frame : Type 0 where
   pub moves : Moves
   pub bits : List ℕ
   pub reliabilities : List ℕ  -- empty before the first soft push
+
+-- the head of no frame
+abbrev pub noHead : Head
+noHead = record { offset = 0; matched = false; errors = 0; moves = noMoves }
 
 -- locked, and 384 bits pending of a frame in place, 392 of one that is not
 unfoldable pub ready : State → Bool

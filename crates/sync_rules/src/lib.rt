@@ -1,6 +1,7 @@
 // The synchroniser's rules on lists of bits, and what holds of them: demand 3 and document 01's statements. The crate `sync` has the code that follows them.
 ghost use mathlib.Core.Path.{_≡_};
 ghost use Rattle.sync_rules.specs.Moves.{noMoves};
+ghost use Rattle.sync_rules.specs.Frames.{noHead};
 ghost use Rattle.sync_rules.specs.Demand.{demand3};
 ghost use Rattle.sync_rules.specs.Account.{accountRule};
 ghost use Rattle.sync_rules.specs.Reliabilities.{reliabilityRule};
@@ -55,6 +56,19 @@ pub fn no_moves() -> Moves
         front: 0,
         second: 0,
         third: 0,
+    }
+}
+
+// The head of no frame: zeros.
+pub fn no_head() -> Head
+    ensures { λ r. ⌜ r ≡ noHead ⌝ }
+{
+    let moves = no_moves();
+    Head {
+        offset: 0,
+        errors: 0,
+        matched: false,
+        moves,
     }
 }
 

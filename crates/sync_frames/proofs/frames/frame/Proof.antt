@@ -12,13 +12,13 @@ use Rattle.sync_frames.proofs.frames.frame.Tie as tie
 
 frame-at-requires : tie.Need-frame-at-requires
 frame-at-requires c κs =
-    let s = c .before .before .before in
+    let s = c .before .before .before .before in
     (s .pre .0, (whole (now (s .args .bits)) (now (s .args .reliabilities)) (s .args .c) (s .args .placed) (s .pre .1 .0) (s .pre .1 .1 .0), s .pre .1 .1 .1))
 
 returns : tie.Need-returns
 returns c =
-    let s = c .before .before .before .before .before .before in
-    resent _ _ _ _ _ _ _ _ _ _ (in-place (now (s .args .bits)) (now (s .args .reliabilities)) (s .args .c) (s .args .placed) (s .pre .1 .0) (s .pre .1 .1 .0) (c .before .before .before .before .if1 .taken)) (omega arith) (c .before .before .frame-at .ensures Stay none-moved)
+    let s = c .before .before .before .before .before .before .before in
+    resent _ _ _ _ _ _ _ _ _ _ (in-place (now (s .args .bits)) (now (s .args .reliabilities)) (s .args .c) (s .args .placed) (s .pre .1 .0) (s .pre .1 .1 .0) (c .before .before .before .before .before .if1 .taken)) (omega arith) (c .before .before .frame-at .ensures Stay (c .before .before .before .before .no-moves .ensures ∙ none-moved))
 
 front-requires : tie.Need-front-requires
 front-requires c κs =
@@ -65,6 +65,7 @@ pub frame-spec : {M : Type 1} → statement M
 frame-spec =
     tie.close
     (tie.spec
+    (λ c κs. search needs)
     frame-at-requires
     (λ c. search needs)
     returns

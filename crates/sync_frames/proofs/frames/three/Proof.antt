@@ -43,7 +43,7 @@ returns c =
     let s = c .before .before .before .before .before .before .before .before .before .before .before .before .before .before .before .before .before .before .before .before .before .before .before .before .before .before in
     let xs = now (s .args .bits) in
     let ys = now (s .args .reliabilities) in
-    drained-as _ _ _ _ _ _ _ _ _ _ _ (c .frames-out .ensures)
+    drained-as _ _ _ _ _ _ _ _ _ _ _ (c .three-out .ensures)
     (again xs ys _ _ _ 0 2 _ _ _ (c .before .before .before .before .before .before .before .before .before .before .before .before .before .before .before .before .before .before .before .before .before .before .before .before .look .ensures .same ys) (c .before .before .before .before .before .before .before .before .before .before .before .before .before .before .before .before .before .before .before .before .before .before .before .if1 .taken) _ (c .before .before .before .before .before .before .before .before .before .before .before .before .before .before .before .before .before .before .before .before .before .frame .ensures) _ _ _
     (again xs ys _ _ _ 1 1 _ _ _ (c .before .before .before .before .before .before .before .before .before .before .before .before .before .before .before .before .look2 .ensures .same ys) (c .before .before .before .before .before .before .before .before .before .before .before .before .before .before .before .if2 .taken) _ (c .before .before .before .before .before .before .before .before .before .before .before .before .before .frame2 .ensures) _ _ _
     (again xs ys _ _ _ 2 0 _ _ _ (c .before .before .before .before .before .before .before .before .look3 .ensures .same ys) (c .before .before .before .before .before .before .before .if3 .taken) _ (c .before .before .before .before .before .frame3 .ensures) _ _ _
@@ -58,7 +58,7 @@ returns-2 c =
     let s = c .before .before .before .before .before .before .before .before .before .before .before .before .before .before .before .before .before .before .before .before in
     let xs = now (s .args .bits) in
     let ys = now (s .args .reliabilities) in
-    drained-as _ _ _ _ _ _ _ _ _ _ _ (c .frames-out2 .ensures)
+    drained-as _ _ _ _ _ _ _ _ _ _ _ (c .two-out .ensures)
     (again xs ys _ _ _ 0 2 _ _ _ (c .before .before .before .before .before .before .before .before .before .before .before .before .before .before .before .before .before .before .look .ensures .same ys) (c .before .before .before .before .before .before .before .before .before .before .before .before .before .before .before .before .before .if1 .taken) _ (c .before .before .before .before .before .before .before .before .before .before .before .before .before .before .before .frame .ensures) _ _ _
     (again xs ys _ _ _ 1 1 _ _ _ (c .before .before .before .before .before .before .before .before .before .before .look2 .ensures .same ys) (c .before .before .before .before .before .before .before .before .before .if2 .taken) _ (c .before .before .before .before .before .before .before .frame2 .ensures) _ _ _
     (ends xs ys _ 2 0 _ (steady-of _ _ _ _ _ _ _ _ (c .before .before .before .before .before .before .before .frame2 .ensures)) (few-of _ _ _ (c .before .before .look3 .ensures) (c .before .if3 .left) (λ w. omega (arith, c .before .before .before .before .before .before .before .frame2 .ensures .pending, c .before .before .before .before .before .before .before .before .before .before .before .before .before .before .before .frame .ensures .pending, s .pre .1 .0 .sound .held-few))) _ (c .before .before .look3 .ensures .same ys) (c .before .if3 .left))))
@@ -72,7 +72,7 @@ returns-3 c =
     let s = c .before .before .before .before .before .before .before .before .before .before .before .before in
     let xs = now (s .args .bits) in
     let ys = now (s .args .reliabilities) in
-    drained-as _ _ _ _ _ _ _ _ _ _ _ (c .frames-out3 .ensures)
+    drained-as _ _ _ _ _ _ _ _ _ _ _ (c .one-out .ensures)
     (again xs ys _ _ _ 0 2 _ _ _ (c .before .before .before .before .before .before .before .before .before .before .look .ensures .same ys) (c .before .before .before .before .before .before .before .before .before .if1 .taken) _ (c .before .before .before .before .before .before .before .frame .ensures) _ _ _
     (ends xs ys _ 1 1 _ (steady-of _ _ _ _ _ _ _ _ (c .before .before .before .before .before .before .before .frame .ensures)) (few-of _ _ _ (c .before .before .look2 .ensures) (c .before .if2 .left) (λ w. omega (arith, c .before .before .before .before .before .before .before .frame .ensures .pending, s .pre .1 .0 .sound .held-few))) _ (c .before .before .look2 .ensures .same ys) (c .before .if2 .left)))
 
