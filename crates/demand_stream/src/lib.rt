@@ -3,7 +3,7 @@
 // crates/demands/specs/Demand1.antt.
 ghost use lib.ListN.{drop};
 ghost use Rattle.merger.specs.States.{ValidMerger};
-ghost use Rattle.sync_steps.specs.Feeds.{hardly, softly, unpacked};
+ghost use Rattle.sync_inputs.specs.Inputs.{hardly, softly, unpacked};
 ghost use Rattle.sync.specs.View.{ValidSynchroniser};
 ghost use Rattle.sync_rules.specs.State.{hard};
 ghost use Rattle.demands.specs.Demand1.{soft, PushRefuses, FeedRefuses, MergerRefuses, WritingRefuses, ReadingRefuses};

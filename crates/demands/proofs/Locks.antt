@@ -6,11 +6,11 @@ use mathlib.Core.Path.{_≡_, refl, sym, ap, _∙_}
 use Prim.Native.Nat.{ℕ, _<_}
 use native.Mathlib.Omega.{arith}
 use lib.ListN.{length}
-use Rattle.sync_steps.specs.declared.Push.{Push}
-use Rattle.sync_steps.specs.declared.Push.the-variants.{Taken, Refused}
+use Rattle.sync_inputs.specs.declared.Push.{Push}
+use Rattle.sync_inputs.specs.declared.Push.the-variants.{Taken, Refused}
 use Rattle.sync.specs.declared.Synchroniser.{Synchroniser}
 use Rattle.sync.specs.View.{view}
-use Rattle.sync_steps.specs.Answers.{answerTo, pushOf}
+use Rattle.sync_inputs.specs.Answers.{answerTo, pushOf}
 use Rattle.sync_steps.specs.Feeds.{FedOut, oneMore, unlessSent, unlessRefused, fedOf}
 use Rattle.sync_call_rules.specs.Calls.{Call, pushing, feeding, answerOf, Meets}
 use Rattle.sync_rules.specs.State.{State, Input}

@@ -10,7 +10,7 @@ use lib.Dec.{leb, ltb}
 use lib.ListN.{length, take, drop, length-drop, drop-of-length-le}
 use Rattle.bits.specs.declared.Refusal.{Refusal}
 use Rattle.bits.specs.declared.Refusal.the-variants.{Dibit, FrameRoom, StreamEnd}
-use Rattle.sync_steps.specs.Answers.{answerTo, pushOf, takes}
+use Rattle.sync_inputs.specs.Answers.{answerTo, pushOf, takes}
 use Rattle.sync.specs.Answers.{PushedBy}
 use Rattle.sync_steps.specs.Feeds.{FedOut, fedOf}
 use Rattle.sync_call_rules.specs.Feeds.{FeedRule}
@@ -18,8 +18,8 @@ use Rattle.sync.specs.Feeds.{FedBy}
 use Rattle.sync_frames.specs.Frames.{headsOf}
 use Rattle.sync.specs.View.{view}
 use Rattle.sync.specs.declared.Fed.{Fed}
-use Rattle.sync_steps.specs.declared.Push.{Push}
-use Rattle.sync_steps.specs.declared.Push.the-variants.{Taken, Refused}
+use Rattle.sync_inputs.specs.declared.Push.{Push}
+use Rattle.sync_inputs.specs.declared.Push.the-variants.{Taken, Refused}
 use Rattle.sync.specs.declared.Pushed.{Pushed}
 use Rattle.sync.specs.declared.Synchroniser.{Synchroniser}
 use Rattle.sync_call_rules.proofs.Feeding.{feed-rules}

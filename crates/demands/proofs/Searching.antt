@@ -10,9 +10,9 @@ use lib.IntN.{pos, _+ℤ_, +ℤ-idl}
 use lib.ListN.{length, getD, take, drop, length-take}
 use lib.Seq.{getD-take}
 use Rattle.sync.specs.declared.Synchroniser.{Synchroniser}
-use Rattle.sync_steps.specs.declared.Push.the-variants.{Taken}
+use Rattle.sync_inputs.specs.declared.Push.the-variants.{Taken}
 use Rattle.sync.specs.View.{view}
-use Rattle.sync_steps.specs.Answers.{answerTo}
+use Rattle.sync_inputs.specs.Answers.{answerTo}
 use Rattle.sync_call_rules.specs.Calls.{Call, History, stateOf, accepted, Got, handed, shownAs, streamOf, placeIn, lastGot, firstGot, gotInARow}
 use Rattle.sync_call_rules.specs.Statements.{callsFollow, demandCalls, movesGot, moveCalls}
 use Rattle.sync_call_rules.proofs.Shown.{shown-length}

@@ -39,12 +39,13 @@ use Rattle.merger_rules.specs.declared.Keeping.the-variants as keeping
 use Rattle.protected_rules.specs.Table.{Admitted, admits}
 use Rattle.sync.specs.Answers.{PushedBy}
 use Rattle.sync.specs.Feeds.{FedBy}
-use Rattle.sync_steps.specs.Feeds.{fedOf, hardly, softly, unpacked}
+use Rattle.sync_steps.specs.Feeds.{fedOf}
+use Rattle.sync_inputs.specs.Inputs.{hardly, softly, unpacked}
 use Rattle.sync_frames.specs.Frames.{headsOf}
 use Rattle.sync.specs.View.{view}
 use Rattle.sync.specs.declared.Fed.{Fed}
-use Rattle.sync_steps.specs.declared.Push.{Push}
-use Rattle.sync_steps.specs.declared.Push.the-variants as pushing
+use Rattle.sync_inputs.specs.declared.Push.{Push}
+use Rattle.sync_inputs.specs.declared.Push.the-variants as pushing
 use Rattle.sync.specs.declared.Pushed.{Pushed}
 use Rattle.sync.specs.declared.Synchroniser.{Synchroniser}
 use Rattle.sync_rules.specs.Pushes.{run}

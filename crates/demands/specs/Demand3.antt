@@ -10,9 +10,9 @@ use Prim.Native.Nat.{ℕ, suc, _+_, _-_, _*_, _≤_, _<_, _^_}
 use lib.IntN.{pos, _+ℤ_}
 use lib.ListN.{length, getD, take, drop}
 use Rattle.sync.specs.declared.Synchroniser.{Synchroniser}
-use Rattle.sync_steps.specs.declared.Push.the-variants.{Taken}
+use Rattle.sync_inputs.specs.declared.Push.the-variants.{Taken}
 use Rattle.sync.specs.View.{ValidSynchroniser, view}
-use Rattle.sync_steps.specs.Answers.{answerTo}
+use Rattle.sync_inputs.specs.Answers.{answerTo}
 use Rattle.sync_call_rules.specs.Calls.{Call, History, stateOf, accepted, Got, handed, streamOf, placeIn, BeginsAt}
 use Rattle.sync_call_rules.specs.Calls.{answerOf, Meets}
 use Rattle.sync_rules.specs.Matching.{locksAt, inPlace, errors}

@@ -32,7 +32,7 @@ pub fn synchroniser_statements()
     ensures { λ _. ⌜ Statements ⌝ }
 {
     sync_call_rules::calls_follow_the_rules();
-    sync::synchroniser_rules();
+    sync_rules::synchroniser_rules();
     sync_rules::gap_rule();
     sync_call_rules::moves_of_calls();
 }

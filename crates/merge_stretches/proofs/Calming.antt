@@ -12,9 +12,9 @@ use Rattle.bits.specs.declared.Refusal.{Refusal}
 use Rattle.bits.specs.declared.Refusal.the-variants.{Dibit, FrameRoom, StreamEnd}
 use Rattle.merger_rules.specs.declared.Clock.{Clock}
 use Rattle.merger_rules.specs.declared.Clock.the-variants.{Absent, At}
-use Rattle.sync_steps.specs.declared.Push.{Push}
-use Rattle.sync_steps.specs.declared.Push.the-variants.{Taken, Refused}
-use Rattle.sync_steps.specs.Answers.{answerBy, answerTo}
+use Rattle.sync_inputs.specs.declared.Push.{Push}
+use Rattle.sync_inputs.specs.declared.Push.the-variants.{Taken, Refused}
+use Rattle.sync_inputs.specs.Answers.{answerBy, answerTo}
 use Rattle.sync_rules.specs.State.{State, Input}
 use Rattle.sync_rules.specs.Pushes.{step, run, quiet}
 use Rattle.sync_rules.proofs.Stillness.{quiet-rule}

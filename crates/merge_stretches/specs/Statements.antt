@@ -4,8 +4,8 @@ use mathlib.Core.Path.{_≡_}
 use mathlib.Core.Logic.{_⊎_}
 use mathlib.Core.List.{[]}
 use Prim.Native.Nat.{ℕ, suc, _≤_, _<_}
-use Rattle.sync_steps.specs.declared.Push.the-variants.{Taken}
-use Rattle.sync_steps.specs.Answers.{answerTo}
+use Rattle.sync_inputs.specs.declared.Push.the-variants.{Taken}
+use Rattle.sync_inputs.specs.Answers.{answerTo}
 use Rattle.sync_rules.specs.State.{State, Input}
 use Rattle.sync_rules.specs.Pushes.{step}
 use Rattle.merge_stretches.specs.Stretches.{calm, stretchOf}

@@ -8,10 +8,10 @@ ghost use Rattle.sync_numbers.specs.View.{viewOf};
 ghost use Rattle.merge_stretches.specs.Stretches.{calm, stretchOf, settledBy};
 ghost use Rattle.merge_stretches.specs.Statements.{calmRule, stretchRule};
 use merger_rules::Clock;
+use sync_inputs::Push;
 use sync_rules::MOST_DIBITS;
 use sync_steps::Into;
 use sync_steps::Numbers;
-use sync_steps::Push;
 use sync_steps::quiet_of;
 
 fn least(a: usize, b: usize) -> usize

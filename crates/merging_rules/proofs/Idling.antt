@@ -16,8 +16,8 @@ use Rattle.merger_rules.specs.declared.Released.the-variants.{NothingReady}
 use Rattle.merger.specs.States.{viewOf, ValidMerger}
 use Rattle.merger.specs.declared.Merger.{Merger}
 use Rattle.merger.proofs.Gave.{len, split, release-empty, release-not}
-use Rattle.sync_steps.specs.declared.Push.{Push}
-use Rattle.sync_steps.specs.declared.Push.the-variants.{Taken, Refused}
+use Rattle.sync_inputs.specs.declared.Push.{Push}
+use Rattle.sync_inputs.specs.declared.Push.the-variants.{Taken, Refused}
 use Rattle.merge_stretches.specs.Stretches.{settledBy}
 use Rattle.merging_rules.specs.Accounts.{Idle}
 use Rattle.merging_rules.proofs.Takings.{takenBy, settle-takes, flush-takes}

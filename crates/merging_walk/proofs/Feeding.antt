@@ -9,11 +9,12 @@ use Rattle.bits.specs.Sizes.{mostOffset}
 use Rattle.merger_rules.specs.declared.Clock.{Clock}
 use Rattle.sync_numbers.specs.declared.numbers.Numbers.{Numbers}
 use Rattle.sync_rules.specs.State.{State, Input, start}
-use Rattle.sync_steps.specs.declared.Push.{Push}
+use Rattle.sync_inputs.specs.declared.Push.{Push}
 use Rattle.sync_steps.specs.declared.feeds.Into.{Into}
 use Rattle.sync_frames.specs.Frames.{DrainedBy}
-use Rattle.sync_steps.specs.Feeds.{hardly, unpacked, FedOut, fedOf, FedInto}
-use Rattle.sync_steps.proofs.Inputs.{take-hardly, drop-hardly}
+use Rattle.sync_steps.specs.Feeds.{FedOut, fedOf, FedInto}
+use Rattle.sync_inputs.specs.Inputs.{hardly, unpacked}
+use Rattle.sync_inputs.proofs.Inputs.{take-hardly, drop-hardly}
 use Rattle.sync.specs.View.{view, ValidSynchroniser}
 use Rattle.sync.specs.declared.Synchroniser.{Synchroniser}
 use Rattle.sync_call_rules.proofs.Feeding.{feed-rules}

@@ -13,14 +13,15 @@ use Rattle.merger_rules.specs.declared.Clock.the-variants.{At}
 use Rattle.sync_rules.specs.State.{State, Input, hard}
 use Rattle.sync_rules.specs.Pushes.{step}
 use Rattle.sync_numbers.specs.declared.numbers.Numbers.{Numbers}
-use Rattle.sync_steps.specs.declared.Push.{Push}
-use Rattle.sync_steps.specs.declared.Push.the-variants.{Taken}
+use Rattle.sync_inputs.specs.declared.Push.{Push}
+use Rattle.sync_inputs.specs.declared.Push.the-variants.{Taken}
 use Rattle.sync_numbers.specs.View.{viewOf}
 use Rattle.sync.specs.View.{view}
 use Rattle.sync.specs.declared.Synchroniser.{Synchroniser}
-use Rattle.sync_steps.specs.Feeds.{FedOut, oneMore, hardly, unpacked, fedOf}
+use Rattle.sync_steps.specs.Feeds.{FedOut, oneMore, fedOf}
+use Rattle.sync_inputs.specs.Inputs.{hardly, unpacked}
 use Rattle.sync_steps.proofs.Feeding.{fed-silent}
-use Rattle.sync_steps.proofs.Inputs.{length-hardly, length-unpacked}
+use Rattle.sync_inputs.proofs.Inputs.{length-hardly, length-unpacked}
 use Rattle.merge_stretches.specs.Stretches.{settledBy, settledOf, calm, stretchOf}
 use Rattle.merge_stretches.specs.Statements.{Calm, Stretch}
 use Rattle.merge_stretches.proofs.Calming.{calm-rule, stretch-rule}

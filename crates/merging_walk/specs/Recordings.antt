@@ -11,7 +11,8 @@ use Rattle.merge_stretches.specs.Stretches.{settledOf}
 use Rattle.sync_rules.specs.State.{State, Input}
 use Rattle.sync_numbers.specs.declared.numbers.Numbers.{Numbers}
 use Rattle.sync_numbers.specs.View.{viewOf, Steady, Few, Rings}
-use Rattle.sync_steps.specs.Feeds.{hardly, unpacked, FedOut, fedOf}
+use Rattle.sync_steps.specs.Feeds.{FedOut, fedOf}
+use Rattle.sync_inputs.specs.Inputs.{hardly, unpacked}
 use Rattle.sync.specs.View.{view}
 use Rattle.sync.specs.declared.Synchroniser.{Synchroniser}
 use Rattle.reception.specs.Receptions.{Reached}

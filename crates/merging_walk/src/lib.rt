@@ -19,11 +19,11 @@ use merging_releasing::release_all;
 use merging_rules::Work;
 use sync::Push;
 use sync::Synchroniser;
+use sync_inputs::Source;
 use sync_rules::Head;
 use sync_rules::MOST_HELD;
 use sync_rules::ROOM_SIZE;
 use sync_steps::Numbers;
-use sync_steps::Source;
 use sync_steps::feed_into;
 
 // The synchronisers of the primary and of the alternate, and what is made of their frames.

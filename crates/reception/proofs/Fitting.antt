@@ -6,9 +6,10 @@ use Prim.Native.Nat.{ℕ, _+_, _*_, _≤_}
 use native.Mathlib.Omega.{arith}
 use lib.ListN.{length, take, drop}
 use lib.Seq.{length-take-le}
-use Rattle.sync_steps.specs.Feeds.{fedOf, hardly, unpacked}
+use Rattle.sync_steps.specs.Feeds.{fedOf}
+use Rattle.sync_inputs.specs.Inputs.{hardly, unpacked}
 use Rattle.sync_call_rules.specs.Feeds.{feedRules}
-use Rattle.sync_steps.proofs.Inputs.{length-packed}
+use Rattle.sync_inputs.proofs.Inputs.{length-packed}
 use Rattle.sync_rules.specs.State.{State}
 
 pub within : feedRules → (room start size : ℕ) (piece : List ℕ) (m : State) (used : ℕ) → size ≤ length piece → start ≤ 4 * size

@@ -11,11 +11,11 @@ use Rattle.sync.specs.declared.Synchroniser.{Synchroniser}
 use Rattle.sync.specs.declared.Fed.{Fed}
 use Rattle.sync_call_rules.specs.Calls.{feeding, Got, History, Meets, stateOf, accepted, madeBy, answerOf, leftBy, handed, slots, shownAs}
 use Rattle.sync_call_rules.specs.Statements.{Follows, callsFollow}
-use Rattle.sync_steps.specs.Answers.{answerTo, pushOf}
+use Rattle.sync_inputs.specs.Answers.{answerTo, pushOf}
 use Rattle.sync_steps.specs.Feeds.{FedOut, fedOf, oneMore, unlessSent, unlessRefused}
 use Rattle.sync.specs.Feeds.{FedBy}
-use Rattle.sync_steps.specs.declared.Push.{Push}
-use Rattle.sync_steps.specs.declared.Push.the-variants.{Taken, Refused}
+use Rattle.sync_inputs.specs.declared.Push.{Push}
+use Rattle.sync_inputs.specs.declared.Push.the-variants.{Taken, Refused}
 use Rattle.sync_call_rules.proofs.Feeding.{feed-rules}
 use Rattle.sync_call_rules.proofs.Slots.{drain-most}
 use Rattle.sync_call_rules.proofs.Shown.{shown-append, shown-length, heads-long}

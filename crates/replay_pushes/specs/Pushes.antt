@@ -9,8 +9,8 @@ use Rattle.replay_bytes.specs.Bytes.{Put, flagByte, lastBytes, signedBytes}
 use Rattle.replay_frames.specs.Frames.{framesBytes}
 use Rattle.sync.specs.View.{view}
 use Rattle.sync.specs.declared.Fed.{Fed}
-use Rattle.sync_steps.specs.declared.Push.{Push}
-use Rattle.sync_steps.specs.declared.Push.the-variants.{Taken, Refused}
+use Rattle.sync_inputs.specs.declared.Push.{Push}
+use Rattle.sync_inputs.specs.declared.Push.the-variants.{Taken, Refused}
 use Rattle.sync.specs.declared.Pushed.{Pushed}
 use Rattle.sync_rules.specs.State.{State, pending, slips, netSlip}
 use Rattle.sync_rules.specs.declared.Head.{Head}

@@ -10,13 +10,13 @@ use Rattle.replay_bytes.specs.Bytes.{Put, lastBytes}
 use Rattle.replay_bytes.proofs.Puts.{put-as}
 use Rattle.replay_bytes.proofs.Telling.{fits}
 use Rattle.sync.specs.Answers.{PushedBy}
-use Rattle.sync_steps.specs.Answers.{answerTo}
+use Rattle.sync_inputs.specs.Answers.{answerTo}
 use Rattle.sync.specs.Feeds.{FedBy}
 use Rattle.sync_steps.specs.Feeds.{fedOf}
 use Rattle.sync_frames.specs.Frames.{headsOf}
 use Rattle.sync.specs.View.{ValidSynchroniser, view}
 use Rattle.sync.specs.declared.Fed.{Fed}
-use Rattle.sync_steps.specs.declared.Push.{Push}
+use Rattle.sync_inputs.specs.declared.Push.{Push}
 use Rattle.sync.specs.declared.Pushed.{Pushed}
 use Rattle.sync.specs.declared.Synchroniser.{Synchroniser}
 use Rattle.sync_rules.specs.Frames.{Frame}

@@ -9,11 +9,12 @@ use lib.Dec.{eqb, leb}
 use lib.ListN.{length, getD, take, drop}
 use Rattle.replay_bytes.specs.Answers.{Answer, bytes, unfit, Told}
 use Rattle.replay_bytes.specs.Bytes.{lastBytes}
-use Rattle.sync_steps.specs.Answers.{answerTo, pushOf}
-use Rattle.sync_steps.specs.Feeds.{fedOf, hardly, softly, unpacked}
+use Rattle.sync_inputs.specs.Answers.{answerTo, pushOf}
+use Rattle.sync_steps.specs.Feeds.{fedOf}
+use Rattle.sync_inputs.specs.Inputs.{hardly, softly, unpacked}
 use Rattle.sync_frames.specs.Frames.{headsOf}
 use Rattle.sync.specs.View.{ValidSynchroniser, view}
-use Rattle.sync_steps.specs.declared.Push.{Push}
+use Rattle.sync_inputs.specs.declared.Push.{Push}
 use Rattle.sync.specs.declared.Synchroniser.{Synchroniser}
 use Rattle.sync_rules.specs.Frames.{Frame}
 use Rattle.sync_rules.specs.Pushes.{Out}

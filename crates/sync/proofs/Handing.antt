@@ -12,15 +12,16 @@ use Rattle.sync.specs.View.{view, ValidSynchroniser}
 use Rattle.sync.specs.Answers.{PushedBy, handedOf}
 use Rattle.sync.specs.Feeds.{FedBy, fedWith}
 use Rattle.sync_rules.specs.State.{Input}
-use Rattle.sync_steps.specs.declared.Push.{Push}
+use Rattle.sync_inputs.specs.declared.Push.{Push}
 use Rattle.sync_numbers.specs.declared.numbers.Numbers.{Numbers}
 use Rattle.sync_frames.specs.declared.frames.Drained.{Drained}
-use Rattle.sync_steps.specs.declared.pushes.Given.{Given}
+use Rattle.sync_inputs.specs.declared.Given.{Given}
 use Rattle.sync_steps.specs.declared.feeds.Into.{Into}
 use Rattle.sync_numbers.specs.View.{Steady, Few, Rings}
 use Rattle.sync_frames.specs.Frames.{DrainedBy}
-use Rattle.sync_steps.specs.Steps.{Brought, appendedTo, inputOf}
-use Rattle.sync_steps.specs.Answers.{answerBy, answerTo, pushOf, takes}
+use Rattle.sync_steps.specs.Steps.{Brought, appendedTo}
+use Rattle.sync_inputs.specs.Inputs.{inputOf}
+use Rattle.sync_inputs.specs.Answers.{answerBy, answerTo, pushOf, takes}
 use Rattle.sync_steps.specs.Feeds.{FedOut, FedInto}
 use Rattle.sync_steps.proofs.Bringing.{newBits, newRels, brings}
 use Rattle.sync_steps.proofs.Answering.{PushedInto, taking}

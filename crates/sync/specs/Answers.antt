@@ -5,7 +5,7 @@ use mathlib.Core.List.{List}
 use Prim.Native.Nat.{ℕ}
 use lib.ListN.{length}
 use Rattle.sync_frames.specs.declared.frames.Drained.{Drained}
-use Rattle.sync_steps.specs.declared.Push.{Push}
+use Rattle.sync_inputs.specs.declared.Push.{Push}
 use Rattle.sync.specs.declared.Pushed.{Pushed}
 use Rattle.sync.specs.declared.Synchroniser.{Synchroniser}
 use Rattle.sync.specs.View.{view, ValidSynchroniser}
@@ -13,7 +13,7 @@ use Rattle.sync_frames.specs.Frames.{headsOf}
 use Rattle.sync_rules.specs.State.{Input}
 use Rattle.sync_rules.specs.Room.{laid}
 -- passed on: the tests of a push in their order, and what a push does that is taken or refused
-unfoldable pub use Rattle.sync_steps.specs.Answers.{answerBy, answerTo, pushOf, takes}
+unfoldable pub use Rattle.sync_inputs.specs.Answers.{answerBy, answerTo, pushOf, takes}
 
 -- the answer r to the push x on the synchroniser s, and the room's bytes before and after
 pub record PushedBy (room room′ : List ℕ) (s : Synchroniser) (x : Input) (r : Pushed) : Type 0 where

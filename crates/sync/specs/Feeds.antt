@@ -10,8 +10,10 @@ use Rattle.sync_rules.specs.Room.{laid}
 use Rattle.sync_steps.specs.declared.feeds.Into.{Into}
 use Rattle.sync_frames.specs.Frames.{headsOf}
 -- passed on: the pushes that a feed has to make, and what a feed of them does
-pub use Rattle.sync_steps.specs.Feeds.{hardly, FedOut}
-unfoldable pub use Rattle.sync_steps.specs.Feeds.{softly, unpacked, oneMore, unlessSent, unlessRefused, fedOf}
+pub use Rattle.sync_steps.specs.Feeds.{FedOut}
+pub use Rattle.sync_inputs.specs.Inputs.{hardly}
+unfoldable pub use Rattle.sync_steps.specs.Feeds.{oneMore, unlessSent, unlessRefused, fedOf}
+unfoldable pub use Rattle.sync_inputs.specs.Inputs.{softly, unpacked}
 
 -- the answer r and the room's bytes before and after are what o says
 pub record FedBy (room room′ : List ℕ) (o : FedOut) (r : Fed) : Type 0 where

@@ -3,37 +3,35 @@
 // What a push does to the rings and the numbers of a state is in the crate `sync_steps`, what holds of any history of calls in `sync_call_rules`.
 ghost use mathlib.Core.Path.{_≡_};
 ghost use mathlib.Core.Bool.{true, false};
-ghost use Prim.Native.Nat.{_^_, _<_};
-ghost use lib.IntN.{subℕ};
 ghost use lib.ListN.{length, drop};
 ghost use Rattle.sync.specs.View.{ValidSynchroniser, view};
-ghost use Rattle.sync_steps.specs.Steps.{inputOf};
+ghost use Rattle.sync_inputs.specs.Inputs.{inputOf};
 ghost use Rattle.sync.specs.Answers.{PushedBy, handedOf};
 ghost use Rattle.sync.specs.Feeds.{FedBy, fedOf, hardly, softly, unpacked, fedWith};
 ghost use Rattle.sync_rules.specs.State.{start, hard, pending, slips, netSlip, streamEnd};
 ghost use Rattle.sync_rules.specs.Pushes.{quiet};
-ghost use Rattle.sync_rules.specs.Demand.{demand3};
-ghost use Rattle.sync_rules.specs.Statements.{rules};
+use sync_inputs::Given;
+pub use sync_inputs::Push;
+use sync_inputs::Source;
+use sync_inputs::answer_to;
+use sync_inputs::hard_given;
+use sync_inputs::made;
+use sync_inputs::soft_given;
+use sync_numbers::net_slip_of;
+use sync_numbers::slips_of;
 use sync_rules::Head;
 use sync_rules::MOST_HELD;
 use sync_rules::StreamFigures;
 use sync_steps::Drained;
-use sync_steps::Given;
 use sync_steps::Into;
 use sync_steps::Numbers;
-pub use sync_steps::Push;
-use sync_steps::Source;
-use sync_steps::answer_to;
 use sync_steps::appended;
 use sync_steps::enough;
 use sync_steps::feed_into;
-use sync_steps::hard_given;
-use sync_steps::made;
 use sync_steps::nothing;
 use sync_steps::put;
 use sync_steps::quiet_of;
 use sync_steps::sends;
-use sync_steps::soft_given;
 
 // The rings of held bits and of their reliabilities, and the numbers that say where in them the held bits lie.
 pub struct Synchroniser {
@@ -166,7 +164,7 @@ impl Synchroniser {
         feed_answer(bits, reliabilities, d)
     }
 
-    // Whether a lock is held.
+    // Tells whether a lock is held.
     pub fn locked(self) -> bool
         ensures { λ r. ⌜ r ≡ view self .figures .locked ⌝ }
     {
@@ -174,25 +172,27 @@ impl Synchroniser {
         n.figures.locked
     }
 
-    // Slips followed.
+    // Counts the slips followed.
     pub fn slips(self) -> u64
         requires { ⌜ ValidSynchroniser self ⌝ }
         ensures { λ r. ⌜ r ≡ slips (view self) ⌝ }
     {
         let n = self.numbers;
-        n.figures.later + n.figures.earlier
+        let f = n.figures;
+        slips_of(f)
     }
 
-    // The signed net slip: two bits for each slip to a later symbol, less two for each to an earlier one.
+    // Gives the signed net slip: two bits for each slip to a later symbol, less two for each to an earlier one.
     pub fn net_slip(self) -> i64
         requires { ⌜ ValidSynchroniser self ⌝ }
         ensures { λ r. ⌜ r ≡ netSlip (view self) ⌝ }
     {
         let n = self.numbers;
-        difference(2 * n.figures.later, 2 * n.figures.earlier)
+        let f = n.figures;
+        net_slip_of(f)
     }
 
-    // Frames sent.
+    // Counts the frames sent.
     pub fn frames(self) -> u64
         ensures { λ r. ⌜ r ≡ view self .figures .frames ⌝ }
     {
@@ -200,7 +200,7 @@ impl Synchroniser {
         n.figures.frames
     }
 
-    // Those of them that showed two markers.
+    // Counts those of them that showed two markers.
     pub fn synchronised_frames(self) -> u64
         ensures { λ r. ⌜ r ≡ view self .figures .synchronised ⌝ }
     {
@@ -208,7 +208,7 @@ impl Synchroniser {
         n.figures.synchronised
     }
 
-    // Bits pending.
+    // Counts the bits pending.
     pub fn pending_bits(self) -> usize
         ensures { λ r. ⌜ r ≡ length (pending (view self)) ⌝ }
     {
@@ -216,7 +216,7 @@ impl Synchroniser {
         n.pending
     }
 
-    // Dibits taken.
+    // Counts the dibits taken.
     pub fn dibits_taken(self) -> u64
         ensures { λ r. ⌜ r ≡ view self .figures .taken ⌝ }
     {
@@ -224,7 +224,7 @@ impl Synchroniser {
         n.figures.taken
     }
 
-    // The offset below which no further frame goes out.
+    // Gives the offset below which no further frame goes out.
     pub fn settled(self) -> u64
         ensures { λ r. ⌜ r ≡ view self .figures .clock ⌝ }
     {
@@ -232,7 +232,7 @@ impl Synchroniser {
         n.figures.clock
     }
 
-    // The end of the stream: the settled offset and the bits pending behind it.
+    // Gives the end of the stream: the settled offset and the bits pending behind it.
     pub fn stream_end(self) -> u64
         requires { ⌜ ValidSynchroniser self ⌝ }
         ensures { λ r. ⌜ r ≡ streamEnd (view self) ⌝ }
@@ -241,7 +241,7 @@ impl Synchroniser {
         n.figures.clock + n.pending as u64
     }
 
-    // How many dibits can be pushed or fed before one searches or sends: until then no frame goes out and the settled offset stays.
+    // Tells how many dibits can be pushed or fed before one searches or sends: until then no frame goes out and the settled offset stays.
     pub fn quiet_dibits(self) -> usize
         requires { ⌜ ValidSynchroniser self ⌝ }
         ensures { λ r. ⌜ r ≡ quiet (view self) ⌝ }
@@ -251,15 +251,7 @@ impl Synchroniser {
     }
 }
 
-// a - b, with its sign.
-fn difference(a: u64, b: u64) -> i64
-    requires { ⌜ a < 2 ^ 62 ⌝ ∗ ⌜ b < 2 ^ 62 ⌝ }
-    ensures { λ r. ⌜ r ≡ subℕ a b ⌝ }
-{
-    a as i64 - b as i64
-}
-
-// What a feed hands back: its answer, and the rings as it left them.
+// Puts together what a feed hands back: its answer, and the rings as it left them.
 fn feed_answer(bits: [u8; MOST_HELD], reliabilities: [u8; MOST_HELD], d: Into) -> Fed
     ensures { λ r. ⌜ r ≡ fedWith bits reliabilities d ⌝ }
 {
@@ -284,7 +276,7 @@ fn feed_answer(bits: [u8; MOST_HELD], reliabilities: [u8; MOST_HELD], d: Into) -
     }
 }
 
-// What a push hands back: its answer, its frames and the next synchroniser.
+// Puts together what a push hands back: its answer, its frames and the next synchroniser.
 fn handed(answer: Push, d: Drained, next: Synchroniser) -> Pushed
     ensures { λ r. ⌜ r ≡ handedOf answer d next ⌝ }
 {
@@ -297,7 +289,7 @@ fn handed(answer: Push, d: Drained, next: Synchroniser) -> Pushed
     }
 }
 
-// One push. It writes into the state that it hands back: a state that is taken apart and put together again is copied once more.
+// Makes one push. It writes into the state that it hands back: a state that is taken apart and put together again is copied once more.
 fn one_push(s: Synchroniser, x: Given, room: &mut [u8]) -> Pushed
     requires { ⌜ ValidSynchroniser s ⌝ }
     ensures { λ r. ⌜ PushedBy (now (room .entry)) (now (room .exit)) s (inputOf x) r ⌝ }
@@ -324,18 +316,4 @@ fn one_push(s: Synchroniser, x: Given, room: &mut [u8]) -> Pushed
     next.numbers = one;
     let none = nothing(one);
     handed(answer, none, next)
-}
-
-// Demand 3 over any list of pushes.
-pub fn demand_three()
-    ensures { λ _. ⌜ demand3 ⌝ }
-{
-    sync_rules::demand_three();
-}
-
-// Document 01's statements, of every state that pushes reach.
-pub fn synchroniser_rules()
-    ensures { λ _. ⌜ rules ⌝ }
-{
-    sync_rules::synchroniser_rules();
 }

@@ -11,9 +11,9 @@ use Rattle.sync_call_rules.specs.Feeds.{FeedRule, feedRules}
 use Rattle.sync_rules.specs.State.{State, Input}
 use Rattle.sync_rules.specs.Frames.{Frame}
 use Rattle.sync_rules.specs.Pushes.{step, run}
-use Rattle.sync_steps.specs.declared.Push.{Push}
-use Rattle.sync_steps.specs.declared.Push.the-variants.{Taken, Refused}
-use Rattle.sync_steps.specs.Answers.{answerTo, takes}
+use Rattle.sync_inputs.specs.declared.Push.{Push}
+use Rattle.sync_inputs.specs.declared.Push.the-variants.{Taken, Refused}
+use Rattle.sync_inputs.specs.Answers.{answerTo, takes}
 use Rattle.sync_steps.specs.Feeds.{FedOut, oneMore, unlessSent, unlessRefused, fedOf}
 
 list-head : (x y : Input) (xs ys : List Input) → _≡_ {A = List Input} (x ∷ xs) (y ∷ ys) → x ≡ y

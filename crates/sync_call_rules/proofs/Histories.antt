@@ -16,10 +16,10 @@ use Rattle.sync.specs.declared.Fed.{Fed}
 use Rattle.sync.specs.View.{ValidSynchroniser, view}
 use Rattle.sync_frames.specs.Frames.{headOf, headsOf}
 use Rattle.sync.specs.Answers.{PushedBy}
-use Rattle.sync_steps.specs.Answers.{answerTo, pushOf, takes}
+use Rattle.sync_inputs.specs.Answers.{answerTo, pushOf, takes}
 use Rattle.bits.specs.declared.Refusal.the-variants.{Dibit, FrameRoom, StreamEnd}
-use Rattle.sync_steps.specs.declared.Push.{Push}
-use Rattle.sync_steps.specs.declared.Push.the-variants.{Taken, Refused}
+use Rattle.sync_inputs.specs.declared.Push.{Push}
+use Rattle.sync_inputs.specs.declared.Push.the-variants.{Taken, Refused}
 use Rattle.sync_rules.specs.Matching.{errors, locksAt, inPlace}
 use Rattle.sync_rules.specs.Moves.{noMoves}
 use Rattle.sync_rules.specs.State.{State, Input, start, hard, pending, bring}

@@ -10,15 +10,15 @@ use Rattle.sync.specs.declared.Synchroniser.{Synchroniser}
 use Rattle.sync.specs.declared.Pushed.{Pushed}
 use Rattle.sync.specs.declared.Fed.{Fed}
 use Rattle.sync_rules.specs.declared.Head.{Head}
-use Rattle.sync_steps.specs.declared.Push.{Push}
-use Rattle.sync_steps.specs.declared.Push.the-variants.{Taken, Refused}
+use Rattle.sync_inputs.specs.declared.Push.{Push}
+use Rattle.sync_inputs.specs.declared.Push.the-variants.{Taken, Refused}
 use Rattle.sync.specs.View.{ValidSynchroniser, view}
 use Rattle.sync.specs.Answers.{PushedBy}
 use Rattle.sync.specs.Feeds.{FedBy}
 use Rattle.sync_call_rules.specs.Calls.{Call, pushing, feeding, answerOf, leftBy, Meets, made, madeBy, History, accepted, Whole, wholeSlots, handedWhole, wholeAs}
 use Rattle.sync_call_rules.specs.Statements.{reliableCalls}
 use Rattle.sync_frames.specs.Frames.{headOf}
-use Rattle.sync_steps.specs.Answers.{answerTo, pushOf}
+use Rattle.sync_inputs.specs.Answers.{answerTo, pushOf}
 use Rattle.sync_steps.specs.Feeds.{FedOut, oneMore, unlessSent, unlessRefused, fedOf}
 use Rattle.sync_rules.specs.State.{State, Input, start}
 use Rattle.sync_rules.specs.Frames.{Frame}

@@ -9,8 +9,8 @@ use lib.ListN.{length, take, drop}
 use Rattle.bits.specs.Sizes.{frameBits}
 use Rattle.sync_rules.specs.Sizes.{slotSize}
 use Rattle.sync.specs.declared.Synchroniser.{Synchroniser}
-use Rattle.sync_steps.specs.declared.Push.{Push}
-use Rattle.sync_steps.specs.declared.Push.the-variants.{Taken, Refused}
+use Rattle.sync_inputs.specs.declared.Push.{Push}
+use Rattle.sync_inputs.specs.declared.Push.the-variants.{Taken, Refused}
 use Rattle.sync.specs.declared.Pushed.{Pushed}
 use Rattle.sync.specs.declared.Fed.{Fed}
 use Rattle.sync_rules.specs.declared.Head.{Head}

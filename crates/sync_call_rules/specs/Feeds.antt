@@ -7,8 +7,8 @@ use Prim.Native.Nat.{ℕ, _≤_, _<_}
 use lib.ListN.{length, take, drop}
 use Rattle.sync_rules.specs.State.{State, Input}
 use Rattle.sync_rules.specs.Pushes.{run}
-use Rattle.sync_steps.specs.declared.Push.the-variants.{Taken}
-use Rattle.sync_steps.specs.Answers.{answerTo, takes}
+use Rattle.sync_inputs.specs.declared.Push.the-variants.{Taken}
+use Rattle.sync_inputs.specs.Answers.{answerTo, takes}
 use Rattle.sync_steps.specs.Feeds.{FedOut, fedOf}
 
 pub record FeedRule (room : ℕ) (xs : List Input) (m : State) (o : FedOut) : Type 0 where

@@ -1,15 +1,17 @@
 // What changes the figures of a synchroniser: dibits taken, slips followed, bits passed in a search, frames sent. The definitions of the same names are
-// in Figures.antt of the crate `sync_rules`.
+// in Figures.antt of the crate `sync_rules`. And what is made of them: the slips followed and the net slip.
 ghost use mathlib.Core.Path.{_≡_};
 ghost use mathlib.Core.Bool.{true, cond, _||_};
-ghost use Prim.Native.Nat.{_+_, _^_, _<_, _≤_};
+ghost use Prim.Native.Nat.{_+_, _*_, _^_, _<_, _≤_};
 ghost use lib.Dec.{ltb};
+ghost use lib.IntN.{subℕ};
 ghost use Rattle.sync_rules.specs.Sizes.{mostDibits};
 ghost use Rattle.sync_rules.specs.Figures.{dibitTaken, slipsCounted, bitsPassed, frameSent};
 ghost use Rattle.sync_numbers.specs.Numbers.{shiftCounted};
 use bits::FRAME_BITS;
 use sync_rules::StreamFigures;
 
+// Tells whether one of the two holds.
 fn or(a: bool, b: bool) -> bool
     ensures { λ r. ⌜ r ≡ (a || b) ⌝ }
 {
@@ -41,7 +43,7 @@ pub fn slips_counted(figures: StreamFigures, later: u64, earlier: u64) -> Stream
     f
 }
 
-// 1 if a lies beyond b.
+// Gives 1 if a lies beyond b, else 0.
 fn beyond(a: usize, b: usize) -> u64
     ensures { λ r. ⌜ r ≡ cond (ltb b a) 1 0 ⌝ }
     ensures few { λ r. ⌜ r ≤ 1 ⌝ }
@@ -95,4 +97,28 @@ pub fn frame_sent(figures: StreamFigures, matched: bool) -> StreamFigures
     f.failures = failures;
     f.locked = failures < 3;
     f
+}
+
+// Counts the slips followed, to a later symbol and to an earlier one.
+pub fn slips_of(figures: StreamFigures) -> u64
+    requires { ⌜ figures .later < 2 ^ 61 ⌝ ∗ ⌜ figures .earlier < 2 ^ 61 ⌝ }
+    ensures { λ r. ⌜ r ≡ figures .later + figures .earlier ⌝ }
+{
+    figures.later + figures.earlier
+}
+
+// Gives a - b with its sign.
+fn difference(a: u64, b: u64) -> i64
+    requires { ⌜ a < 2 ^ 62 ⌝ ∗ ⌜ b < 2 ^ 62 ⌝ }
+    ensures { λ r. ⌜ r ≡ subℕ a b ⌝ }
+{
+    a as i64 - b as i64
+}
+
+// Gives the signed net slip: two bits for each slip to a later symbol, less two for each to an earlier one.
+pub fn net_slip_of(figures: StreamFigures) -> i64
+    requires { ⌜ figures .later < 2 ^ 61 ⌝ ∗ ⌜ figures .earlier < 2 ^ 61 ⌝ }
+    ensures { λ r. ⌜ r ≡ subℕ (2 * figures .later) (2 * figures .earlier) ⌝ }
+{
+    difference(2 * figures.later, 2 * figures.earlier)
 }

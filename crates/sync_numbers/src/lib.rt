@@ -6,6 +6,8 @@ mod numbers; // numbers.rt: the numbers of a state
 
 pub use figures::bits_passed;
 pub use figures::dibit_taken;
+pub use figures::net_slip_of;
+pub use figures::slips_of;
 pub use moves::moves_of;
 pub use numbers::Numbers;
 pub use numbers::dropped;

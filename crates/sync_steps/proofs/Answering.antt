@@ -11,12 +11,12 @@ use lib.ListN.{length}
 use Rattle.bits.proofs.Conds.{cond-lt, cond-ge, cond-le}
 use Rattle.sync_numbers.specs.declared.numbers.Numbers.{Numbers}
 use Rattle.sync_frames.specs.declared.frames.Drained.{Drained}
-use Rattle.sync_steps.specs.declared.Push.{Push}
-use Rattle.sync_steps.specs.declared.Push.the-variants.{Taken, Refused}
+use Rattle.sync_inputs.specs.declared.Push.{Push}
+use Rattle.sync_inputs.specs.declared.Push.the-variants.{Taken, Refused}
 use Rattle.sync_numbers.specs.View.{viewOf, Steady, Few, Rings}
 use Rattle.sync_frames.specs.Frames.{DrainedBy, nothingOf}
 use Rattle.sync_steps.specs.Steps.{Brought, SentAfter}
-use Rattle.sync_steps.specs.Answers.{answerBy, answerTo, pushOf, takes}
+use Rattle.sync_inputs.specs.Answers.{answerBy, answerTo, pushOf, takes}
 use Rattle.sync_rules.specs.State.{State, Input}
 use Rattle.sync_rules.specs.Pushes.{Out, step}
 use Rattle.sync_rules.specs.Room.{laid}

@@ -10,11 +10,11 @@ use lib.ListN.{length, drop, drop-of-length-le}
 use Rattle.sync_numbers.specs.declared.numbers.Numbers.{Numbers}
 use Rattle.sync_frames.specs.declared.frames.Drained.{Drained}
 use Rattle.sync_steps.specs.declared.feeds.Into.{Into}
-use Rattle.sync_steps.specs.declared.Push.{Push}
-use Rattle.sync_steps.specs.declared.Push.the-variants.{Taken, Refused}
+use Rattle.sync_inputs.specs.declared.Push.{Push}
+use Rattle.sync_inputs.specs.declared.Push.the-variants.{Taken, Refused}
 use Rattle.sync_numbers.specs.View.{viewOf, Steady, Few, Rings}
 use Rattle.sync_frames.specs.Frames.{nothingOf}
-use Rattle.sync_steps.specs.Answers.{answerTo, pushOf, takes}
+use Rattle.sync_inputs.specs.Answers.{answerTo, pushOf, takes}
 use Rattle.sync_steps.specs.Feeds.{FedOut, oneMore, unlessSent, unlessRefused, fedOf, FedInto, intoOf}
 use Rattle.sync_rules.specs.State.{State, Input}
 use Rattle.sync_rules.specs.Frames.{Frame}

@@ -4,4 +4,3 @@ pub mod Bringing
 pub mod Quiets
 pub mod Answering
 pub mod Feeding
-pub mod Inputs

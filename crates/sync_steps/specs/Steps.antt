@@ -7,7 +7,6 @@ use Prim.Native.Nat.{ℕ, _+_, _-_, _≤_, _<_}
 use Rattle.sync_rules.specs.Sizes.{inPlaceBits, searchBits}
 use Rattle.sync_numbers.specs.declared.numbers.Numbers.{Numbers}
 use Rattle.sync_frames.specs.declared.frames.Drained.{Drained}
-use Rattle.sync_steps.specs.declared.pushes.Given.{Given}
 use Rattle.sync_numbers.specs.View.{viewOf, Sound, Low, Steady, Rings}
 use Rattle.sync_rules.specs.Figures.{dibitTaken}
 use Rattle.sync_rules.specs.State.{Input, bring}
@@ -16,16 +15,6 @@ use Rattle.sync_frames.specs.Frames.{DrainedBy}
 
 abbrev pub appendedTo : Numbers → Bool → Numbers
 appendedTo c soft = record { first = c .first; restorable = c .restorable; pending = c .pending + 2; figures = dibitTaken soft (c .figures) }
-
--- what a push brings
-abbrev pub inputOf : Given → Input
-inputOf g = record { dibit = g .dibit; ofFirst = g .first; ofSecond = g .second; soft = g .soft }
-
-abbrev pub hardGiven : ℕ → Given
-hardGiven d = record { more = true; dibit = d; first = 255; second = 255; soft = false }
-
-abbrev pub softGiven : ℕ → ℕ → ℕ → Given
-softGiven d a b = record { more = true; dibit = d; first = a; second = b; soft = true }
 
 -- the two bits of the push x brought into the rings
 pub record Brought (bits reliabilities bits′ reliabilities′ : List ℕ) (c : Numbers) (x : Input) (r : Numbers) : Type 0 where

@@ -1,4 +1,4 @@
-// The parts of a push: its tests, its two bits, the search where there is no lock, and its frames.
+// The parts of a push that was taken: its two bits, the search where there is no lock, and its frames.
 ghost use mathlib.Core.Path.{_≡_};
 ghost use mathlib.Core.Bool.{true, false};
 ghost use mathlib.Core.List.{List};
@@ -8,64 +8,26 @@ ghost use Rattle.sync_rules.specs.Sizes.{searchBits, mostHeld, roomSize, mostDi
 ghost use Rattle.bits.specs.Bit.{Bits};
 ghost use Rattle.sync_rings.specs.Ring.{ring};
 ghost use Rattle.sync_numbers.specs.View.{Sound, Low, Steady, Rings, viewOf};
-ghost use Rattle.sync_steps.specs.Steps.{appendedTo, Brought, Searched, Waiting, SentAfter, inputOf, hardGiven, softGiven};
-ghost use Rattle.sync_steps.specs.Answers.{answerBy, takes};
+ghost use Rattle.sync_steps.specs.Steps.{appendedTo, Brought, Searched, Waiting, SentAfter};
+ghost use Rattle.sync_inputs.specs.Inputs.{inputOf};
 ghost use Rattle.sync_rules.specs.Matching.{firstOf, locksAt};
 ghost use Rattle.sync_rules.specs.Pushes.{quiet};
-use super::Push;
-use bits::Refusal;
 use sync_frames::Drained;
 use sync_frames::drain;
+use sync_inputs::Given;
 use sync_numbers::Numbers;
 use sync_numbers::bits_passed;
 use sync_numbers::dibit_taken;
 use sync_numbers::dropped;
 use sync_rings::three_frames;
 use sync_rules::IN_PLACE_BITS;
-use sync_rules::MOST_DIBITS;
 use sync_rules::MOST_HELD;
-use sync_rules::ROOM_SIZE;
 use sync_rules::SEARCH_BITS;
 
 // The most bits that can be pending with nothing to do: with a lock, and without one.
 const LOCKED_IDLE: usize = IN_PLACE_BITS - 1;
 
 const SEARCHING_IDLE: usize = SEARCH_BITS - 1;
-
-// What a push brings: a dibit, the reliabilities of its two bits, and whether it is a soft push. `more` is false where there is none to make.
-pub struct Given {
-    pub more: bool,
-    pub dibit: u8,
-    pub first: u8,
-    pub second: u8,
-    pub soft: bool,
-}
-
-// Makes a hard push: its bits count 255.
-pub fn hard_given(dibit: u8) -> Given
-    ensures { λ r. ⌜ r ≡ hardGiven dibit ⌝ }
-{
-    Given {
-        more: true,
-        dibit,
-        first: 255,
-        second: 255,
-        soft: false,
-    }
-}
-
-// Makes a soft push.
-pub fn soft_given(dibit: u8, first: u8, second: u8) -> Given
-    ensures { λ r. ⌜ r ≡ softGiven dibit first second ⌝ }
-{
-    Given {
-        more: true,
-        dibit,
-        first,
-        second,
-        soft: true,
-    }
-}
 
 // Counts the two bits of a push, soft or not, as pending.
 pub fn appended(c: Numbers, soft: bool) -> Numbers
@@ -161,32 +123,6 @@ pub(crate) fn brought(
     put(&mut *bits, end, x.dibit / 2, x.dibit % 2);
     put(&mut *reliabilities, end, x.first, x.second);
     appended(k, x.soft)
-}
-
-// Answers a push: makes tests 1, 2 and 3 in this order.
-pub fn answer_to(taken: u64, dibit: u8, room: usize) -> Push
-    ensures { λ r. ⌜ r ≡ answerBy room dibit taken ⌝ }
-{
-    if 3 < dibit {
-        return Push::Refused(Refusal::Dibit);
-    }
-    if room < ROOM_SIZE {
-        return Push::Refused(Refusal::FrameRoom);
-    }
-    if MOST_DIBITS <= taken {
-        return Push::Refused(Refusal::StreamEnd);
-    }
-    Push::Taken
-}
-
-// Counts the pushes made: 1, or 0 of a refused one.
-pub fn made(answer: Push) -> usize
-    ensures { λ r. ⌜ r ≡ takes answer ⌝ }
-{
-    match answer {
-        Push::Taken => 1,
-        Push::Refused(_) => 0,
-    }
 }
 
 // Tells whether bits enough are pending for a frame, or without a lock for a search. After most pushes they are not.

@@ -3,7 +3,7 @@
 use mathlib.Core.List.{[]}
 use lib.ListN.{drop}
 use Rattle.protected_rules.proofs.Admission.{admits-admitted, admitted-admits}
-use Rattle.sync_steps.specs.Feeds.{hardly, softly, unpacked}
+use Rattle.sync_inputs.specs.Inputs.{hardly, softly, unpacked}
 use Rattle.sync_rules.specs.State.{hard}
 use Rattle.tail_rules.proofs.ErasedPlaces.{not-erasable, erasable-not}
 use Rattle.tail_rules.proofs.Searching.{means}

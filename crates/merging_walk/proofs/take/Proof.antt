@@ -3,7 +3,7 @@
 use mathlib.Core.Path.{_≡_}
 use borrow.Author.Needs.{needs}
 use denote.Ref.{now}
-use Rattle.sync_steps.specs.Feeds.{inputsOf}
+use Rattle.sync_inputs.specs.Inputs.{inputsOf}
 use Rattle.merging_walk.proofs.Feeding.{same-dibits, took-as}
 use Rattle.merging_walk.proofs.take.Statement.{statement}
 use Rattle.merging_walk.proofs.take.Tie as tie

@@ -6,7 +6,7 @@ use Prim.Native.Nat.{ℕ}
 use denote.Ref.{now}
 use Rattle.replay_bytes.proofs.Puts.{put-as, put-more}
 use Rattle.sync.specs.View.{view}
-use Rattle.sync_steps.specs.declared.Push.{Push}
+use Rattle.sync_inputs.specs.declared.Push.{Push}
 use Rattle.replay_pushes.specs.Pushes.{pushedBytes}
 use borrow.Author.Needs.{needs}
 use Rattle.replay_pushes.proofs.put_pushed.Statement.{statement}

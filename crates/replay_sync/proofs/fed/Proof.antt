@@ -1,7 +1,7 @@
 -- `fed` tells what the feed answers.
 -- Assumes nothing.
 use denote.Ref.{now}
-use Rattle.sync_steps.specs.Feeds.{hardly}
+use Rattle.sync_inputs.specs.Inputs.{hardly}
 use Rattle.replay_sync.proofs.Telling.{fed-told}
 use borrow.Author.Needs.{needs}
 use Rattle.replay_sync.proofs.fed.Statement.{statement}

@@ -9,7 +9,7 @@ use lib.ListN.{length, take, drop, length-drop}
 use lib.Seq.{take-all}
 use denote.Ref.{now}
 use Rattle.bits.proofs.Conds.{cond-le, cond-gt}
-use Rattle.sync_steps.specs.Feeds.{softly}
+use Rattle.sync_inputs.specs.Inputs.{softly}
 use Rattle.sync.specs.View.{view}
 use Rattle.replay_sync.specs.Streams.{fedSoftCase, feedCase, named}
 use Rattle.replay_sync.proofs.Reading.{named-is}

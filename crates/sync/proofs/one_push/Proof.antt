@@ -3,7 +3,7 @@
 use mathlib.Core.Path.{_≡_, refl, sym, ap, _∙_}
 use native.Mathlib.Omega.{arith}
 use Rattle.sync_frames.specs.declared.frames.Drained.{Drained}
-use Rattle.sync_steps.specs.Answers.{takes}
+use Rattle.sync_inputs.specs.Answers.{takes}
 use Rattle.sync_steps.proofs.Quiets.{waits-as}
 use Rattle.sync_steps.proofs.Answering.{taking, refuses, accepts}
 use Rattle.sync.proofs.Handing.{lends, brings-in, handed-by}

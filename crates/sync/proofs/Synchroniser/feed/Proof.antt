@@ -1,7 +1,7 @@
 -- `sync::Synchroniser::feed` meets its contract.
 -- Assumes nothing.
 use borrow.Author.Needs.{needs}
-use Rattle.sync_steps.specs.Feeds.{inputsOf}
+use Rattle.sync_inputs.specs.Inputs.{inputsOf}
 use Rattle.sync.proofs.Handing.{lends, fed-by}
 use Rattle.sync.proofs.Synchroniser.feed.Statement.{statement}
 use Rattle.sync.proofs.Synchroniser.feed.Tie as tie

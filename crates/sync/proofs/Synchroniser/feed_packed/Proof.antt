@@ -1,7 +1,7 @@
 -- `sync::Synchroniser::feed_packed` meets its contract.
 -- Assumes nothing.
 use borrow.Author.Needs.{needs}
-use Rattle.sync_steps.specs.Feeds.{inputsOf}
+use Rattle.sync_inputs.specs.Inputs.{inputsOf}
 use Rattle.sync.proofs.Handing.{lends, fed-by}
 use Rattle.sync.proofs.Synchroniser.feed_packed.Statement.{statement}
 use Rattle.sync.proofs.Synchroniser.feed_packed.Tie as tie

@@ -6,10 +6,10 @@ use native.Mathlib.Omega.{arith}
 use denote.Ref.{now}
 use lib.ListN.{length}
 use Rattle.sync_numbers.specs.View.{viewOf}
-use Rattle.sync_steps.specs.Steps.{inputOf}
-use Rattle.sync_steps.specs.Answers.{takes}
-use Rattle.sync_steps.specs.Feeds.{inputsOf}
-use Rattle.sync_steps.proofs.Inputs.{one-left}
+use Rattle.sync_inputs.specs.Inputs.{inputOf}
+use Rattle.sync_inputs.specs.Answers.{takes}
+use Rattle.sync_inputs.specs.Inputs.{inputsOf}
+use Rattle.sync_inputs.proofs.Inputs.{one-left}
 use Rattle.sync_steps.proofs.Quiets.{waits}
 use Rattle.sync_steps.proofs.Answering.{taking, refuses, accepts}
 use Rattle.sync_steps.proofs.Feeding.{Feeding, feed-starts, feed-refused, feed-sent, feed-goes-on, feed-ends, fed-as}

@@ -1,7 +1,7 @@
 -- `sync_steps::pushes::brought` meets its contract.
 -- Assumes nothing.
 use denote.Ref.{now}
-use Rattle.sync_steps.specs.Steps.{inputOf}
+use Rattle.sync_inputs.specs.Inputs.{inputOf}
 use Rattle.sync_steps.proofs.Bringing.{brings}
 use borrow.Author.Needs.{needs}
 use Rattle.sync_steps.proofs.pushes.brought.Statement.{statement}

@@ -1,4 +1,4 @@
--- `sync_steps::feeds::packed_at` meets its contract.
+-- `sync_inputs::packed_at` meets its contract.
 -- Assumes nothing.
 use mathlib.Core.Path.{_≡_, sym, ap, _∙_}
 use mathlib.Core.List.{List, [], _∷_}
@@ -7,11 +7,11 @@ use native.Mathlib.Omega.{arith}
 use denote.Ref.{now}
 use lib.ListN.{length, drop, getD}
 use Rattle.sync_rules.specs.State.{Input, hard}
-use Rattle.sync_steps.specs.Feeds.{hardly, unpacked}
-use Rattle.sync_steps.proofs.Inputs.{packed-next, length-packed, gives-hard, gives-none}
+use Rattle.sync_inputs.specs.Inputs.{hardly, unpacked}
+use Rattle.sync_inputs.proofs.Inputs.{packed-next, length-packed, gives-hard, gives-none}
 use borrow.Author.Needs.{needs}
-use Rattle.sync_steps.proofs.feeds.packed_at.Statement.{statement}
-use Rattle.sync_steps.proofs.feeds.packed_at.Tie as tie
+use Rattle.sync_inputs.proofs.packed_at.Statement.{statement}
+use Rattle.sync_inputs.proofs.packed_at.Tie as tie
 
 -- the next push that there is
 lands : (bs : List ℕ) (start used : ℕ) → start / 4 + (start % 4 + used) / 4 < length bs → (d : ℕ) → d ≡ getD (unpacked (getD bs (start / 4 + (start % 4 + used) / 4) 0 ∷ [])) ((start % 4 + used) % 4) 0

@@ -1,11 +1,11 @@
--- `sync_steps::feeds::hard_at` meets its contract.
+-- `sync_inputs::hard_at` meets its contract.
 -- Assumes nothing.
 use denote.Ref.{now}
 use native.Mathlib.Omega.{arith}
-use Rattle.sync_steps.proofs.Inputs.{hardly-next, length-hardly, gives-hard, gives-none}
+use Rattle.sync_inputs.proofs.Inputs.{hardly-next, length-hardly, gives-hard, gives-none}
 use borrow.Author.Needs.{needs}
-use Rattle.sync_steps.proofs.feeds.hard_at.Statement.{statement}
-use Rattle.sync_steps.proofs.feeds.hard_at.Tie as tie
+use Rattle.sync_inputs.proofs.hard_at.Statement.{statement}
+use Rattle.sync_inputs.proofs.hard_at.Tie as tie
 
 returns : tie.Need-returns
 returns c = gives-hard _ _ _ _ (c .hard-given .ensures) (hardly-next (now (c .before .before .before .before .args .dibits)) _ (c .before .before .if1 .taken))

@@ -1,10 +1,10 @@
--- `sync_steps::pushes::answer_to` meets its contract.
+-- `sync_inputs::answer_to` meets its contract.
 -- Assumes nothing.
 use mathlib.Core.Path.{_≡_, sym, _∙_}
 use Rattle.bits.proofs.Conds.{cond-lt, cond-ge, cond-le, cond-gt}
-use Rattle.sync_steps.specs.Answers.{answerBy}
-use Rattle.sync_steps.proofs.pushes.answer_to.Statement.{statement}
-use Rattle.sync_steps.proofs.pushes.answer_to.Tie as tie
+use Rattle.sync_inputs.specs.Answers.{answerBy}
+use Rattle.sync_inputs.proofs.answer_to.Statement.{statement}
+use Rattle.sync_inputs.proofs.answer_to.Tie as tie
 
 returns : tie.Need-returns
 unfolding answerBy

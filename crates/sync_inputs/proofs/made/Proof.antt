@@ -1,10 +1,10 @@
--- `sync_steps::pushes::made` meets its contract.
+-- `sync_inputs::made` meets its contract.
 -- Assumes nothing.
 use mathlib.Core.Path.{_≡_, sym, ap}
-use Rattle.sync_steps.specs.Answers.{takes}
+use Rattle.sync_inputs.specs.Answers.{takes}
 use borrow.Author.Needs.{needs}
-use Rattle.sync_steps.proofs.pushes.made.Statement.{statement}
-use Rattle.sync_steps.proofs.pushes.made.Tie as tie
+use Rattle.sync_inputs.proofs.made.Statement.{statement}
+use Rattle.sync_inputs.proofs.made.Tie as tie
 
 returns : tie.Need-returns
 unfolding takes

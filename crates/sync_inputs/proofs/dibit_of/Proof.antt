@@ -1,13 +1,13 @@
--- `sync_steps::feeds::dibit_of` meets its contract.
+-- `sync_inputs::dibit_of` meets its contract.
 -- Assumes nothing.
 use mathlib.Core.Path.{_≡_, sym, ap}
 use mathlib.Core.List.{[], _∷_}
 use Prim.Native.Nat.{ℕ}
 use native.Mathlib.Omega.{arith}
 use lib.ListN.{getD}
-use Rattle.sync_steps.specs.Feeds.{unpacked}
-use Rattle.sync_steps.proofs.feeds.dibit_of.Statement.{statement}
-use Rattle.sync_steps.proofs.feeds.dibit_of.Tie as tie
+use Rattle.sync_inputs.specs.Inputs.{unpacked}
+use Rattle.sync_inputs.proofs.dibit_of.Statement.{statement}
+use Rattle.sync_inputs.proofs.dibit_of.Tie as tie
 
 at : (b k j : ℕ) → k ≡ j → getD (unpacked (b ∷ [])) j 0 ≡ getD (unpacked (b ∷ [])) k 0
 at b k j e = ap (λ (i : ℕ). getD (unpacked (b ∷ [])) i 0) (sym e)

@@ -1,13 +1,13 @@
--- `sync_steps::feeds::soft_at` meets its contract.
+-- `sync_inputs::soft_at` meets its contract.
 -- Assumes nothing.
 use mathlib.Core.Path.{_≡_, refl}
 use Prim.Native.Nat.{_+_, _*_}
 use native.Mathlib.Omega.{arith}
 use denote.Ref.{now}
-use Rattle.sync_steps.proofs.Inputs.{softly-next, length-softly, gives-soft, gives-none}
+use Rattle.sync_inputs.proofs.Inputs.{softly-next, length-softly, gives-soft, gives-none}
 use borrow.Author.Needs.{needs}
-use Rattle.sync_steps.proofs.feeds.soft_at.Statement.{statement}
-use Rattle.sync_steps.proofs.feeds.soft_at.Tie as tie
+use Rattle.sync_inputs.proofs.soft_at.Statement.{statement}
+use Rattle.sync_inputs.proofs.soft_at.Tie as tie
 
 returns : tie.Need-returns
 returns c =

@@ -1,14 +1,14 @@
--- `sync_steps::feeds::stretch_at` meets its contract.
+-- `sync_inputs::stretch_at` meets its contract.
 -- Assumes nothing.
 use mathlib.Core.Path.{_≡_}
 use native.Mathlib.Omega.{arith}
 use denote.Ref.{now}
 use lib.ListN.{drop}
-use Rattle.sync_steps.specs.Feeds.{unpacked}
-use Rattle.sync_steps.proofs.Inputs.{first-given, none-behind, gives-none}
+use Rattle.sync_inputs.specs.Inputs.{unpacked}
+use Rattle.sync_inputs.proofs.Inputs.{first-given, none-behind, gives-none}
 use borrow.Author.Needs.{needs}
-use Rattle.sync_steps.proofs.feeds.stretch_at.Statement.{statement}
-use Rattle.sync_steps.proofs.feeds.stretch_at.Tie as tie
+use Rattle.sync_inputs.proofs.stretch_at.Statement.{statement}
+use Rattle.sync_inputs.proofs.stretch_at.Tie as tie
 
 returns : tie.Need-returns
 returns c = first-given _ _ _ _ (c .before .if1 .taken) (c .packed-at .ensures)

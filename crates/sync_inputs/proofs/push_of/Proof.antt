@@ -1,9 +1,9 @@
--- `sync_steps::feeds::push_of` meets its contract.
+-- `sync_inputs::push_of` meets its contract.
 -- Assumes nothing.
-use Rattle.sync_steps.proofs.Inputs.{of-hard, of-soft, of-packed, of-stretch}
+use Rattle.sync_inputs.proofs.Inputs.{of-hard, of-soft, of-packed, of-stretch}
 use borrow.Author.Needs.{needs}
-use Rattle.sync_steps.proofs.feeds.push_of.Statement.{statement}
-use Rattle.sync_steps.proofs.feeds.push_of.Tie as tie
+use Rattle.sync_inputs.proofs.push_of.Statement.{statement}
+use Rattle.sync_inputs.proofs.push_of.Tie as tie
 
 returns : tie.Need-returns
 returns c = of-hard _ _ _ _ _ _ (c .before .enum-told .given .1) (c .hard-at .ensures)

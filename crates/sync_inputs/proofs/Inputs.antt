@@ -7,11 +7,11 @@ use Prim.Native.Nat.{ℕ, zero, suc, _+_, _-_, _*_, _/_, _≤_, _<_, min}
 use native.Mathlib.Omega.{arith}
 use lib.ListN.{length, getD, take, drop, length-take, length-drop}
 use lib.Seq.{drop-drop}
-use Rattle.sync_steps.specs.declared.pushes.Given.{Given}
-use Rattle.sync_steps.specs.declared.feeds.Source.{Source}
-use Rattle.sync_steps.specs.declared.feeds.Source.the-variants.{Hard, Soft, Packed, Stretch}
-use Rattle.sync_steps.specs.Feeds.{hardly, softly, unpacked, inputsOf, noneGiven, GivenBy}
-use Rattle.sync_steps.specs.Steps.{hardGiven, softGiven}
+use Rattle.sync_inputs.specs.declared.Given.{Given}
+use Rattle.sync_inputs.specs.declared.Source.{Source}
+use Rattle.sync_inputs.specs.declared.Source.the-variants.{Hard, Soft, Packed, Stretch}
+use Rattle.sync_inputs.specs.Inputs.{hardly, softly, unpacked, inputsOf, noneGiven, GivenBy}
+use Rattle.sync_inputs.specs.Inputs.{hardGiven, softGiven}
 use Rattle.sync_rules.specs.State.{Input, hard}
 
 pub length-hardly : (ds : List ℕ) → length (hardly ds) ≡ length ds
