@@ -2,15 +2,16 @@
 // Runs a case list from standard input over the libraries and says where an answer is not the expected one.
 // docs/REPLAY.md has the list's format. The first ten differences, and last `cases N differences D`, or `bad list at case N`.
 
-// The crate `replay_list` reads the list and prints, `replay_kinds` answers a case by its kind.
+// The crate `replay_list` reads the list and prints; a case is answered by its kind in `replay_voice` (1 to 11), `replay_sync` (12 to 14, 18 to 20) and
+// `replay_merger` (15 to 17).
 use merger::Merger;
-use replay_kinds::coded;
-use replay_kinds::merged;
-use replay_kinds::synchronised;
 use replay_list::Tally;
 use replay_list::case_after;
 use replay_list::judged;
 use replay_list::no_whole_case;
+use replay_merger::merger_case;
+use replay_sync::synchroniser_case;
+use replay_voice::coding_case;
 use sync::Synchroniser;
 use sync_rules::ROOM_SIZE;
 
@@ -32,9 +33,9 @@ fn replayed(window: &mut [u8], table: &mut [u8], room: &mut [u8], out: &mut [u8]
         c = case_after(&mut *window, c);
         let from = c.input;
         let to = c.middle;
-        let one = coded(c.kind, &mut *table, tabled, &window[from..to], &mut *out);
+        let one = coding_case(c.kind, &mut *table, tabled, &window[from..to], &mut *out);
         tabled = one.table;
-        let two = synchronised(
+        let two = synchroniser_case(
             c.kind,
             one.size,
             sync,
@@ -43,7 +44,7 @@ fn replayed(window: &mut [u8], table: &mut [u8], room: &mut [u8], out: &mut [u8]
             &mut *out,
         );
         sync = two.sync;
-        let three = merged(c.kind, two.size, merger, &window[from..to], &mut *out);
+        let three = merger_case(c.kind, two.size, merger, &window[from..to], &mut *out);
         merger = three.merger;
         t = judged(t, &*window, c, &*out, three.size);
         if !t.going {

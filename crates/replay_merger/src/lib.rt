@@ -144,3 +144,19 @@ pub fn released(m: Merger, input: &[u8], out: &mut [u8]) -> Merged
     let second = clock(flags / 4 % 2 == 1, eight(input, 9));
     all_released(m, first, second, flags % 2 == 1, out)
 }
+
+// Answers a case by its kind, of 15 to 17. A case of another kind leaves the merger as it is, and the size of its answer is handed on.
+pub fn merger_case(kind: u8, size: usize, m: Merger, input: &[u8], out: &mut [u8]) -> Merged
+    requires { ⌜ ValidMerger m ⌝ }
+    ensures { λ r. ⌜ ValidMerger (r .merger) ⌝ }
+{
+    match kind {
+        15 => Merged {
+            size: 0,
+            merger: Merger::new(),
+        },
+        16 => merger_pushed(m, input, out),
+        17 => released(m, input, out),
+        _ => Merged { size, merger: m },
+    }
+}

@@ -78,3 +78,29 @@ pub fn fed_packed(s: Synchroniser, input: &[u8], room: &mut [u8], out: &mut [u8]
     let f = s.feed_packed(&input[2..], pair(at(input, 0), at(input, 1)), &mut *room);
     put_fed(out, f, &*room)
 }
+
+// Answers a case by its kind, of 12 to 14 and 18 to 20. A case of another kind leaves the synchroniser as it is, and the size of its answer is handed on.
+pub fn synchroniser_case(
+    kind: u8,
+    size: usize,
+    s: Synchroniser,
+    input: &[u8],
+    room: &mut [u8],
+    out: &mut [u8],
+) -> Synchronised
+    requires { ⌜ ValidSynchroniser s ⌝ }
+    ensures { λ r. ⌜ ValidSynchroniser (r .sync) ⌝ }
+{
+    match kind {
+        12 => Synchronised {
+            size: 0,
+            sync: Synchroniser::new(),
+        },
+        13 => pushed(s, input, room, out),
+        14 => pushed_soft(s, input, room, out),
+        18 => fed(s, input, room, out),
+        19 => fed_soft(s, input, room, out),
+        20 => fed_packed(s, input, room, out),
+        _ => Synchronised { size, sync: s },
+    }
+}

@@ -1,8 +1,10 @@
-// What a case of docs/REPLAY.md answers, of the kinds 8 to 11: a table, encoding, hard and soft decoding.
+// What a case of docs/REPLAY.md answers, of the kinds 8 to 11: a table, encoding, hard and soft decoding. kinds.rt answers a case of 1 to 11 by its kind.
 ghost use Rattle.replay_bytes.specs.Bytes.{Put};
 ghost use Rattle.replay_bytes.specs.Answers.{Told};
 ghost use Rattle.replay_voice.specs.Cases.{tableCase, encodeCase, decodeCase, softCase, spoken};
 use bits::Refusal;
+pub use kinds::Answered;
+pub use kinds::coding_case;
 use replay_bytes::no_case;
 use replay_bytes::put;
 use replay_bytes::put_all;
@@ -10,6 +12,8 @@ use replay_bytes::put_number;
 use replay_bytes::put_written;
 use voice_rules::Decoded;
 use voice_rules::Decoding;
+
+mod kinds;
 
 // Kind 8: a table.
 pub fn table(bytes: &[u8], out: &mut [u8]) -> usize

@@ -16,26 +16,26 @@ Inv-loop window₀ table₀ room₀ out₀ sync₀ merger₀ tabled₀ c₀ t₀
 abbrev μ-loop : tie.MeasureT-loop
 μ-loop window₀ table₀ room₀ out₀ sync₀ merger₀ tabled₀ c₀ t₀ turns₀ window table room out sync merger tabled c t turns = turns
 
-sub-merged : tie.Need-sub-merged Inv-loop μ-loop
-sub-merged c =
+sub-merger-case : tie.Need-sub-merger-case Inv-loop μ-loop
+sub-merger-case c =
     let found = c .before .before .before .before .before .before .before .before .before .before .before .before .before .before .before .before .before .before .before .before .before in
     let inside = found .case-after .ensures in
     search needs
 
-part-merged-start : tie.Need-part-merged-start Inv-loop μ-loop
-part-merged-start c =
+part-merger-case-start : tie.Need-part-merger-case-start Inv-loop μ-loop
+part-merger-case-start c =
     let found = c .before .before .before .before .before .before .before .before .before .before .before .before .before .before .before .before .before .before .before .before .before .before in
     let inside = found .case-after .ensures in
     search needs
 
-part-merged-end : tie.Need-part-merged-end Inv-loop μ-loop
-part-merged-end c =
+part-merger-case-end : tie.Need-part-merger-case-end Inv-loop μ-loop
+part-merger-case-end c =
     let found = c .before .before .before .before .before .before .before .before .before .before .before .before .before .before .before .before .before .before .before .before .before .before in
     let inside = found .case-after .ensures in
     search needs
 
-merged-requires : tie.Need-merged-requires Inv-loop μ-loop
-merged-requires c κs =
+merger-case-requires : tie.Need-merger-case-requires Inv-loop μ-loop
+merger-case-requires c κs =
     let at-loop = c .before .before .before .before .before .before .before .before .before .before .before .before .before .before .before .before .before .before .before .before .before .before .before .before .before .before .before in
     at-loop .loop .inv .1
 
@@ -89,11 +89,11 @@ loop-less c =
 loop-again : tie.Need-loop-again Inv-loop μ-loop
 loop-again c =
     let three = c .before .before .before .before .before .before .before in
-    let merged = three .before in
-    let two = merged .before .before .before .before .before .before in
+    let merger-case = three .before in
+    let two = merger-case .before .before .before .before .before .before in
     let room = two .before .before in
-    let synchronised = room .before in
-    let one = synchronised .before .before .before .before .before .before in
+    let synchroniser-case = room .before in
+    let one = synchroniser-case .before .before .before .before .before .before in
     let table = one .before .before in
     let window = table .before .before .before .before .before .before .before in
     let found = window .before in
@@ -105,7 +105,7 @@ loop-again c =
     let o1 = one .out .given in
     let o2 = two .out2 .given in
     let o3 = three .out3 .given in
-    (synchronised .synchronised .ensures, merged .merged .ensures, found .case-after .ensures, search needs, search needs, search needs, search needs)
+    (synchroniser-case .synchroniser-case .ensures, merger-case .merger-case .ensures, found .case-after .ensures, search needs, search needs, search needs, search needs)
 
 pub replayed-spec : {M : Type 1} → statement M
 replayed-spec =
@@ -127,10 +127,10 @@ replayed-spec =
     (λ c. search needs)
     (λ c. search needs)
     (λ c κs. search needs)
-    sub-merged
-    part-merged-start
-    part-merged-end
-    merged-requires
+    sub-merger-case
+    part-merger-case-start
+    part-merger-case-end
+    merger-case-requires
     judged-requires
     same-length
     same-length-2

@@ -1,4 +1,4 @@
-// Kinds 1 to 11: all below the synchroniser. The table in force goes on from case to case.
+// A case of the kinds 1 to 11, all below the synchroniser, answered by its kind. The table in force goes on from case to case.
 use replay_bytes::no_case;
 
 // The answer's length, and how many bytes the table in force has.
@@ -18,7 +18,7 @@ fn new_table(table: &mut [u8], bytes: &[u8], out: &mut [u8]) -> Answered {
     }
     bits::copy(bytes, &mut table[0..n]);
     Answered {
-        size: replay_voice::table(bytes, out),
+        size: crate::table(bytes, out),
         table: n,
     }
 }
@@ -33,15 +33,21 @@ fn answer(kind: u8, table: &[u8], input: &[u8], out: &mut [u8]) -> usize {
         5 => replay_tails::made(input, out),
         6 => replay_tails::repaired(false, input, out),
         7 => replay_tails::repaired(true, input, out),
-        9 => replay_voice::encoded(table, input, out),
-        10 => replay_voice::decoded(table, input, out),
-        11 => replay_voice::softly_decoded(table, input, out),
+        9 => crate::encoded(table, input, out),
+        10 => crate::decoded(table, input, out),
+        11 => crate::softly_decoded(table, input, out),
         _ => no_case(),
     }
 }
 
 // Answers a case. The table in force has the first `tabled` bytes of the lent memory.
-pub fn coded(kind: u8, table: &mut [u8], tabled: usize, input: &[u8], out: &mut [u8]) -> Answered {
+pub fn coding_case(
+    kind: u8,
+    table: &mut [u8],
+    tabled: usize,
+    input: &[u8],
+    out: &mut [u8],
+) -> Answered {
     if table.len() < tabled {
         return Answered {
             size: no_case(),
