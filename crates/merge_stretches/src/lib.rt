@@ -1,5 +1,5 @@
-// Two streams of the same time, fed side by side: how many dibits of each can go in at once so that nothing is otherwise than dibit by dibit, and how far
-// a stream that was fed is settled.
+// Tells how many dibits of two streams of the same time can go in at once so that nothing is otherwise than dibit by dibit, and how far a stream that
+// was fed is settled.
 ghost use mathlib.Core.Path.{_≡_};
 ghost use mathlib.Core.List.{List};
 ghost use Prim.Native.Nat.{ℕ, _-_, _≤_, min, max};
@@ -14,12 +14,14 @@ use sync_steps::Into;
 use sync_steps::Numbers;
 use sync_steps::quiet_of;
 
+// Gives the smaller of two.
 fn least(a: usize, b: usize) -> usize
     ensures { λ r. ⌜ r ≡ min a b ⌝ }
 {
     if a < b { a } else { b }
 }
 
+// Gives n, or 1 in place of 0: a walk over dibits has to go on.
 fn at_least_one(n: usize) -> usize
     ensures { λ r. ⌜ r ≡ max 1 n ⌝ }
 {
@@ -29,7 +31,7 @@ fn at_least_one(n: usize) -> usize
     n
 }
 
-// How many dibits a stream still takes that has taken so many.
+// Tells how many dibits a stream still takes that has taken so many.
 fn untaken(taken: u64) -> usize
     ensures { λ r. ⌜ r ≡ mostDibits - taken ⌝ }
 {
@@ -39,14 +41,14 @@ fn untaken(taken: u64) -> usize
     (MOST_DIBITS - taken) as usize
 }
 
-// How many dibits can follow of which none searches, sends or is refused, whatever stands in the rings.
+// Tells how many dibits can follow of which none searches, sends or is refused, whatever stands in the rings.
 fn calm_of(k: Numbers) -> usize
     ensures { λ r. ⌜ ((bits reliabilities : List ℕ) → r ≡ calm (viewOf bits reliabilities k)) ⌝ }
 {
     least(quiet_of(k), untaken(k.figures.taken))
 }
 
-// How many dibits of each of two streams are fed at once, of which the first has `one` left and the second `two`.
+// Tells how many dibits of each of two streams are fed at once, of which the first has `one` left and the second `two`.
 pub fn stretch(k: Numbers, l: Numbers, one: usize, two: usize) -> usize
     ensures { λ r. ⌜ ((bits reliabilities others their : List ℕ) → r ≡ stretchOf (viewOf bits reliabilities k) (viewOf others their l) one two) ⌝ }
     ensures some { λ r. ⌜ 1 ≤ r ⌝ }
@@ -54,7 +56,7 @@ pub fn stretch(k: Numbers, l: Numbers, one: usize, two: usize) -> usize
     at_least_one(least(least(calm_of(k), calm_of(l)), least(one, two)))
 }
 
-// How far a stream is settled after a feed: a recording that had no dibit, or whose push was refused, has ended.
+// Tells how far a stream is settled after a feed: a recording that had no dibit, or whose push was refused, has ended.
 pub fn settled_after(d: Into) -> Clock
     ensures { λ r. ⌜ r ≡ settledBy (d .took) (d .answer) (d .drained .numbers .figures .clock) ⌝ }
 {

@@ -39,11 +39,13 @@ pub struct Merger {
     pub last: Clock,
 }
 
+// Hands back what a push answers, and the next merger.
 pub struct AfterPush {
     pub answer: Keeping,
     pub merger: Merger,
 }
 
+// Hands back what a release answers, the numbers that are free again, and the next merger.
 pub struct AfterRelease {
     pub answer: Released,
     pub freed: Freed,
@@ -51,7 +53,7 @@ pub struct AfterRelease {
 }
 
 impl Merger {
-    // Nothing pending, nothing released.
+    // Gives a merger with nothing pending and nothing released.
     pub fn new() -> Merger
         ensures { λ r. ⌜ (viewOf r ≡ view [] Clock.Absent) × ValidMerger r ⌝ }
     {
@@ -67,7 +69,7 @@ impl Merger {
         }
     }
 
-    // A frame of stream 0 (primary) or 1 (alternate), the number that the caller chose for it and the yes or no of the caller's check.
+    // Takes a frame of stream 0 (primary) or 1 (alternate), the number that the caller chose for it and the yes or no of the caller's check.
     pub fn push(self, stream: usize, figures: Head, number: u64, check: bool) -> AfterPush
         requires { ⌜ ValidMerger self ⌝ }
         ensures { λ r. ⌜ PushGave self (pushOf stream (heldOf figures number check) (viewOf self)) r ⌝ }
@@ -103,7 +105,8 @@ impl Merger {
         )
     }
 
-    // The first position, where it is ready: given how far each stream is settled, or at a flush. Called until nothing is ready, it is the source's whole release.
+    // Takes out the first position where it is ready, by how far each stream is settled, or at a flush. Called until nothing is ready, it is the
+    // source's whole release.
     pub fn release(self, primary: Clock, alternate: Clock, flush: bool) -> AfterRelease
         requires { ⌜ ValidMerger self ⌝ }
         ensures { λ r. ⌜ ReleaseGave (releaseOf primary alternate flush (viewOf self)) r ⌝ }
@@ -133,7 +136,7 @@ impl Merger {
         }
     }
 
-    // As at the start.
+    // Gives the merger as at the start.
     pub fn clear(self) -> Merger
         ensures { λ r. ⌜ (viewOf r ≡ view [] Clock.Absent) × ValidMerger r ⌝ }
     {
@@ -141,7 +144,7 @@ impl Merger {
     }
 }
 
-// The envelope handed on: the lent primary or, on a yes, the lent alternate, itself and no copy.
+// Hands on an envelope: the lent primary or, on a yes, the lent alternate, itself and no copy.
 pub fn chosen<'a>(primary: &'a [u8], alternate: &'a [u8], other: bool) -> &'a [u8]
     ensures { λ r. ⌜ r ≡ cond other (alternate .entry) (primary .entry) ⌝ }
 {

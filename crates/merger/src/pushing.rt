@@ -1,4 +1,4 @@
-// A frame that is neither refused nor late: into the position that it belongs to, or into a new one.
+// Puts a frame that is neither refused nor late into the position that it belongs to, or into a new one.
 ghost use mathlib.Core.Path.{_≡_};
 ghost use Prim.Native.Nat.{_≤_, _<_};
 ghost use lib.ListN.{take, getD};
@@ -17,7 +17,7 @@ use merger_steps::opened;
 use merger_steps::with_frame;
 use merger_steps::with_position;
 
-// The frame belongs to the position at a place.
+// Puts the frame into the position at a place, if its stream's place there is free.
 pub(crate) fn join(m: Merger, at: usize, stream: usize, h: Held) -> AfterPush
     requires { ⌜ ValidMerger m ⌝ ∗ ⌜ at < m .n ⌝ ∗ ⌜ IsNear (h .figures .offset) (getD (m .positions) at noPosition .key) ⌝ ∗ ⌜ h .figures .offset ≤ mostOffset ⌝ }
     ensures { λ r. ⌜ PushGave m (joinOf stream h (viewOf m) at) r ⌝ }
@@ -45,7 +45,7 @@ pub(crate) fn join(m: Merger, at: usize, stream: usize, h: Held) -> AfterPush
     }
 }
 
-// The frame belongs to none: a new position at its place in the order.
+// Opens a position for a frame that belongs to none, at its place in the order.
 pub(crate) fn open(m: Merger, at: usize, stream: usize, h: Held) -> AfterPush
     requires { ⌜ ValidMerger m ⌝ ∗ ⌜ at ≡ belowOf (h .figures .offset) (take (m .n) (m .positions)) ⌝ ∗ ⌜ Nowhere (h .figures .offset) (take (m .n) (m .positions)) ⌝ ∗ ⌜ at ≤ m .n ⌝ ∗ ⌜ h .figures .offset ≤ mostOffset ⌝ }
     ensures { λ r. ⌜ PushGave m (openOf stream h (viewOf m) at) r ⌝ }

@@ -1,4 +1,4 @@
-// A position that is ready: taken out, and its chosen frame handed on or passed over.
+// Takes out a position that is ready, and hands its chosen frame on or passes it over.
 ghost use mathlib.Core.Path.{_≡_};
 ghost use Prim.Native.Nat.{_<_};
 ghost use lib.ListN.{take, drop};
@@ -17,7 +17,7 @@ use merger_steps::snap;
 use merger_steps::without_first;
 use sync_rules::Head;
 
-// The merger without its first position.
+// Gives the merger without its first position.
 pub(crate) fn first_out(m: Merger) -> Merger
     requires { ⌜ ValidMerger m ⌝ ∗ ⌜ 0 < m .n ⌝ }
     ensures { λ r. ⌜ (viewOf r ≡ view (drop 1 (take (m .n) (m .positions))) (m .last)) × ValidMerger r ⌝ }
@@ -34,7 +34,7 @@ pub(crate) fn first_out(m: Merger) -> Merger
     }
 }
 
-// What becomes of the chosen frame of a position that was taken out of the merger.
+// Hands on the chosen frame of a position that was taken out, or passes it over.
 pub(crate) fn give(m: Merger, c: Choice, freed: Freed) -> AfterRelease
     requires { ⌜ ValidMerger m ⌝ ∗ ⌜ FairChoice c ⌝ }
     ensures { λ r. ⌜ ReleaseGave (settle c freed (take (m .n) (m .positions)) (m .last)) r ⌝ }

@@ -1,5 +1,6 @@
--- frame.rs `Merger::push` and the loop of `Merger::release`, from their own text. The map is the list of its positions, in the order of their keys; `decodes` is the yes or no
--- that came with the frame; `settled` is a pair of clocks. Of Merging.antt only the types and `view` are used. Assumes nothing.
+-- frame.rs `Merger::push` and the loop of `Merger::release`, from their own text. The map is the list of its positions, in the order of their keys;
+-- `decodes` is the yes or no that came with the frame; `settled` is a pair of clocks. Of Merging.antt only the types and `view` are used. Assumes
+-- nothing.
 use mathlib.Core.Bool.{Bool, true, false, cond, not, _&&_, _||_}
 use mathlib.Core.List.{List, [], _∷_, _++_}
 use Prim.Native.Nat.{ℕ, zero, suc, _+_, _-_, _*_, _/_, max}

@@ -26,8 +26,8 @@ pub record Reached : Type 0 where
   pub pushed : (s : ℕ) (h : Held) (v : View) → Sound v → Sound (pushOf s h v .next)
   pub released : (s₀ s₁ : Clock) (flush : Bool) (v : View) → Sound v → Sound (releaseOf s₀ s₁ flush v .next)
 
--- each release lies a whole frame or more above the last, and less than 16 frames above it a whole number of frames; the offsets of a script rise, and none comes
--- twice
+-- each release lies a whole frame or more above the last, and less than 16 frames above it a whole number of frames; the offsets of a script rise,
+-- and none comes twice
 pub record Rises : Type 0 where
   pub each : (s₀ s₁ : Clock) (flush : Bool) (v : View) → Advances (v .last) (releaseOf s₀ s₁ flush v .answer) (releaseOf s₀ s₁ flush v .next .last)
   pub all : (calls : List Call) (v : View) → Rising (v .last) (releases calls v)
@@ -70,23 +70,23 @@ pub record GivenBack : Type 0 where
 pub record FromKept : Type 0 where
   pub all : (calls : List Call) → Origins (Keeps calls started) Absent (releases calls started)
 
--- a push that is not refused leaves what the source's leaves; the source's release, of all that is ready, is the one-position call as often as there are positions,
--- or oftener
+-- a push that is not refused leaves what the source's leaves; the source's release, of all that is ready, is the one-position call as often as there
+-- are positions, or oftener
 pub record AsTheSource : Type 0 where
   pub pushed : (s : ℕ) (h : Held) (v : View) → Sound v → ((r : Refusal) → pushOf s h v .answer ≡ Refused r → ⊥) → pushOf s h v .next ≡ sourcePush s h v
   pub repeated : (s₀ s₁ : Clock) (flush : Bool) (l : List Position) (last : Clock) (n : ℕ) → length l ≤ n → times n s₀ s₁ flush (view l last) ≡ sourceRelease s₀ s₁ flush l last
 
--- frames off the grid. After a frame of own offset o that was released as l, a frame of own offset n, a whole frame or more after it, is not passed over; if
--- o was moved on by at most 191, n is not late either, and is moved back by at most 191 and on by at most 192. Only a frame exactly half a frame off the grid is
--- moved on by 192, and then the next frame of its stream, 384 after it, is late
+-- frames off the grid. After a frame of own offset o that was released as l, a frame of own offset n, a whole frame or more after it, is not passed
+-- over; if o was moved on by at most 191, n is not late either, and is moved back by at most 191 and on by at most 192. Only a frame exactly half a
+-- frame off the grid is moved on by 192, and then the next frame of its stream, 384 after it, is late
 pub record OffGrid : Type 0 where
   pub not-passed : (last : Clock) (o n : ℕ) → o + 384 ≤ n → Later (At (snapped last o)) n
   pub not-late : (last : Clock) (o n : ℕ) → snapped last o ≤ o + 191 → o + 384 ≤ n → isLate (At (snapped last o)) n ≡ false
   pub moved : (last : Clock) (o n : ℕ) → snapped last o ≤ o + 192 → o + 384 ≤ n → (n ≤ snapped (At (snapped last o)) n + 191) × (snapped (At (snapped last o)) n ≤ n + 192)
   pub half : (l k : ℕ) → k < 15 → (snapped (At l) (l + k * 384 + 576) ≡ l + k * 384 + 768) × (isLate (At (l + k * 384 + 768)) (l + k * 384 + 960) ≡ true)
 
--- refusal 9 does not come to a caller that releases all that is ready after at most j frames, none of them more than d above either settled offset. It comes with
--- the seventeenth frame of a stream where the other one stands still
+-- refusal 9 does not come to a caller that releases all that is ready after at most j frames, none of them more than d above either settled offset.
+-- It comes with the seventeenth frame of a stream where the other one stands still
 pub record NeverFull : Type 0 where
   pub room : (d j : ℕ) (rounds : List Round) → d + 192 * j ≤ 2880 → Paced d j 0 0 rounds → RoomIn rounds started
   pub seventeen : RoomIn (oneSided 17 0) started → ⊥

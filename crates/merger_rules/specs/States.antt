@@ -16,8 +16,8 @@ use Rattle.merger_rules.specs.declared.Choice.{Choice}
 use Rattle.merger_rules.specs.declared.Choice.the-variants.{Neither, Chosen}
 use Rattle.merger_rules.specs.Merging.{View, isHeld, noPosition}
 
--- how many positions, from the first, lie more than 191 below the offset. The code's one search: it serves for the position that a frame belongs to (`homeOf`) and
--- for the place of a new one (`orderOf`)
+-- how many positions, from the first, lie more than 191 below the offset. The code's one search: it serves for the position that a frame belongs to
+-- (`homeOf`) and for the place of a new one (`orderOf`)
 unfoldable pub belowOf : ℕ → List Position → ℕ
 belowOf o [] = 0
 belowOf o (p ∷ ps) = cond (ltb (p .key + 191) o) (suc (belowOf o ps)) 0

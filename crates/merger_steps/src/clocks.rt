@@ -1,4 +1,4 @@
-// Offsets against what was released last.
+// Holds offsets against what was released last.
 ghost use mathlib.Core.Path.{_≡_};
 ghost use Prim.Native.Nat.{_≤_};
 ghost use Rattle.bits.specs.Sizes.{mostOffset};
@@ -7,10 +7,10 @@ ghost use Rattle.merger_rules.specs.States.{Marked};
 use bits::FRAME_BITS;
 use merger_rules::Clock;
 
-// Sixteen frames: so far an offset lies on the grid of what was released last.
+// So far, sixteen frames, an offset lies on the grid of what was released last.
 const GRID_BITS: u64 = 16 * FRAME_BITS;
 
-// Whether a frame comes too late after what was released last.
+// Tells whether a frame comes too late after what was released last.
 pub fn late(last: Clock, offset: u64) -> bool
     requires { ⌜ Marked last ⌝ ∗ ⌜ offset ≤ mostOffset ⌝ }
     ensures { λ r. ⌜ r ≡ isLate last offset ⌝ }
@@ -21,7 +21,7 @@ pub fn late(last: Clock, offset: u64) -> bool
     }
 }
 
-// The offset on the grid of what was released last.
+// Gives the offset on the grid of what was released last.
 pub fn snap(last: Clock, offset: u64) -> u64
     requires { ⌜ Marked last ⌝ ∗ ⌜ offset ≤ mostOffset ⌝ }
     ensures { λ r. ⌜ r ≡ snapped last offset ⌝ }
@@ -44,7 +44,7 @@ pub fn snap(last: Clock, offset: u64) -> u64
     }
 }
 
-// Whether an offset lies after what was released last.
+// Tells whether an offset lies after what was released last.
 pub fn after(last: Clock, offset: u64) -> bool
     ensures { λ r. ⌜ r ≡ isAfter last offset ⌝ }
 {

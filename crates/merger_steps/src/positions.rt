@@ -1,4 +1,4 @@
-// One position: its two places, whether it is ready, whose frame is chosen, which numbers it holds.
+// Works on one position: its two places, whether it is ready, whose frame is chosen, which numbers it holds.
 ghost use mathlib.Core.Path.{_≡_};
 ghost use Prim.Native.Nat.{_≤_};
 ghost use Rattle.bits.specs.Sizes.{mostOffset};
@@ -11,7 +11,7 @@ use merger_rules::Held;
 use merger_rules::Place;
 use merger_rules::Position;
 
-// Whether the stream's place holds a frame.
+// Tells whether the stream's place holds a frame.
 pub fn is_taken(p: Position, stream: usize) -> bool
     ensures { λ r. ⌜ r ≡ taken stream p ⌝ }
 {
@@ -30,7 +30,7 @@ pub fn is_taken(p: Position, stream: usize) -> bool
     }
 }
 
-// The position with a frame in the stream's place.
+// Gives the position with a frame in the stream's place.
 pub fn with_frame(p: Position, stream: usize, h: Held) -> Position
     ensures { λ r. ⌜ r ≡ filled stream h p ⌝ }
 {
@@ -52,7 +52,7 @@ pub fn with_frame(p: Position, stream: usize, h: Held) -> Position
     }
 }
 
-// A new position, whose key is the frame's offset.
+// Opens a position, whose key is the frame's offset.
 pub fn opened(stream: usize, h: Held) -> Position
     ensures { λ r. ⌜ r ≡ alone stream h ⌝ }
 {
@@ -68,7 +68,7 @@ pub fn opened(stream: usize, h: Held) -> Position
     )
 }
 
-// Whether a stream has delivered a position or moved past it.
+// Tells whether a stream has delivered a position or moved past it.
 fn is_passed(place: Place, settled: Clock, key: u64) -> bool
     requires { ⌜ key ≤ mostOffset ⌝ }
     ensures { λ r. ⌜ r ≡ passed settled key place ⌝ }
@@ -82,7 +82,7 @@ fn is_passed(place: Place, settled: Clock, key: u64) -> bool
     }
 }
 
-// Whether both streams have, or it is a flush.
+// Tells whether both streams have, or it is a flush.
 pub fn ready(p: Position, primary: Clock, alternate: Clock, flush: bool) -> bool
     requires { ⌜ p .key ≤ mostOffset ⌝ }
     ensures { λ r. ⌜ r ≡ isReady primary alternate flush p ⌝ }
@@ -99,7 +99,7 @@ pub fn ready(p: Position, primary: Clock, alternate: Clock, flush: bool) -> bool
     false
 }
 
-// The primary's frame, unless only the alternate's passes the check.
+// Chooses the primary's frame, unless only the alternate's passes the check.
 pub fn choose(p: Position) -> Choice
     ensures { λ r. ⌜ r ≡ choiceOf p ⌝ }
 {
@@ -125,7 +125,7 @@ pub fn choose(p: Position) -> Choice
     }
 }
 
-// The number that a place gives back.
+// Gives the number that a place gives back.
 fn free(place: Place) -> Free
     ensures { λ r. ⌜ r ≡ freeOf place ⌝ }
 {
@@ -135,7 +135,7 @@ fn free(place: Place) -> Free
     }
 }
 
-// The numbers that a position gives back when it is taken out.
+// Gives the numbers that a position gives back when it is taken out.
 pub fn freed(p: Position) -> Freed
     ensures { λ r. ⌜ r ≡ freedOf p ⌝ }
 {

@@ -76,8 +76,8 @@ NoPush [] = Unit {0}
 NoPush (push s h ∷ cs) = ⊥
 NoPush (release s₀ s₁ flush ∷ cs) = NoPush cs
 
--- each stream's frames rise, none comes below what its stream called settled, and settled offsets do not fall; after a flush or an absent stream nothing is pushed.
--- f₀ and f₁ are what the two streams have promised so far
+-- each stream's frames rise, none comes below what its stream called settled, and settled offsets do not fall; after a flush or an absent stream
+-- nothing is pushed. f₀ and f₁ are what the two streams have promised so far
 abbrev pub Honest : ℕ → ℕ → List Call → Type 0
 Honest f₀ f₁ [] = Unit {0}
 Honest f₀ f₁ (push zero h ∷ cs) = (f₀ ≤ h .figures .offset) × Honest (h .figures .offset + 1) f₁ cs

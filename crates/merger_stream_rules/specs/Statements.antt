@@ -19,7 +19,7 @@ pub record OneGrid (calls : List Call) : Type 0 where
 pub record NothingLost : Type 0 where
   pub kept : (g : ℕ) (calls : List Call) → OnGrid g calls → Honest 0 0 calls → NoneLost calls started
 
--- one stream alone, whatever its slips: nothing is double or passed over, no offset is moved back by more than 191 or on by more than 192, and a frame is late only
--- where it lies exactly half a frame after the last release
+-- one stream alone, whatever its slips: nothing is double or passed over, no offset is moved back by more than 191 or on by more than 192, and a
+-- frame is late only where it lies exactly half a frame after the last release
 pub record OneStream : Type 0 where
   pub unbroken : (s : ℕ) (calls : List Call) → s ≤ 1 → Alone s 0 calls → Unbroken calls started

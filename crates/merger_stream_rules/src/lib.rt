@@ -1,7 +1,7 @@
-// What comes of whole streams in the merger: of two on one grid, and of one alone whatever its slips. Nothing runs here.
+// States what comes of whole streams in the merger: of two on one grid, and of one alone whatever its slips. Nothing runs here.
 //
-// Read specs/Grids.antt and specs/Streams.antt for what streams are, specs/Statements.antt for what is proved of them: each theorem is the `ensures` of an empty
-// function, so that it cannot vanish. What the merger answers is in the crate merger_rules.
+// Read specs/Grids.antt and specs/Streams.antt for what streams are, specs/Statements.antt for what is proved of them: each theorem is the `ensures` of
+// an empty function, so that it cannot vanish. What the merger answers is in the crate merger_rules.
 ghost use mathlib.Core.List.{List};
 ghost use Prim.Native.Nat.{ℕ};
 ghost use Rattle.merger_rules.specs.Scripts.{Call};

@@ -1,8 +1,8 @@
-// Two packed recordings of the same time, merged: the two files are read piece by piece, and when both have ended what still waits is flushed. The journal goes to
-// standard output.
+// Merges two packed recordings of the same time: the two files are read piece by piece, and when both have ended what still waits is flushed. The journal
+// goes to standard output.
 //
-// The crate merging_walk goes over two pieces dibit by dibit, merging_offering hands frames to the merger, merging_releasing writes what it releases, merging_shelf keeps
-// the envelopes of the frames that wait; merging_rules has what holds of them between calls.
+// The crate merging_walk goes over two pieces dibit by dibit, merging_offering hands frames to the merger, merging_releasing writes what it releases,
+// merging_shelf keeps the envelopes of the frames that wait; merging_rules has what holds of them between calls.
 ghost use Rattle.merging_walk.specs.Recordings.{PairedIn};
 ghost use Rattle.merging.specs.Merges.{AddsUp};
 use journal_rules::Earlier;
@@ -17,8 +17,9 @@ use merging_walk::Recordings;
 use merging_walk::merge_pieces;
 use sync::Synchroniser;
 
-// The synchronisers when both recordings have ended, and what became of their frames: of all frames, how many the merger took in, how many came late, found
-// their place taken or were refused; of those taken in, how many are in the journal, gave way to the other stream's frame, or were passed over.
+// Hands back the synchronisers when both recordings have ended, and says what became of their frames: of all frames, how many the merger took in, how
+// many came late, found their place taken or were refused; of those taken in, how many are in the journal, gave way to the other stream's frame, or
+// were passed over.
 pub struct Merged {
     pub first: Synchroniser,
     pub second: Synchroniser,
@@ -43,7 +44,7 @@ fn merge_some(r: Recordings, table: &[u8], primary: i32, alternate: i32) -> Reco
     merge_pieces(r, table, &one[..m], &two[..n])
 }
 
-// Two recordings of which nothing is read.
+// Begins with two recordings of which nothing is read.
 fn begun() -> Recordings
     ensures { λ r. ⌜ PairedIn r ⌝ }
 {
@@ -114,7 +115,8 @@ fn finished(r: Recordings) -> Merged
     }
 }
 
-// Writes the journal of two open recordings. A proved loop has to end, and nothing says that the input does: the loop counts its turns down, from a number that no run uses up.
+// Writes the journal of two open recordings. A proved loop has to end, and nothing says that the input does: the loop counts its turns down, from a
+// number that no run uses up.
 pub fn merge(table: &[u8], primary: i32, alternate: i32) -> Merged
     ensures { λ m. ⌜ AddsUp m ⌝ }
 {

@@ -20,7 +20,7 @@ use merging_shelf::with_frame;
 use sync_rules::Head;
 use sync_rules::SLOT_SIZE;
 
-// The merger's answer to a frame, and the work after it.
+// Hands back the merger's answer to a frame, and the work after it.
 pub struct Offered {
     pub answer: Keeping,
     pub work: Work,

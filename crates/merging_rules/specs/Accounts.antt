@@ -1,5 +1,5 @@
--- What is counted of the frames, and what holds of the work between calls: what lies on the shelf is what waits in the merger, and every frame is accounted for.
--- Assumes nothing.
+-- What is counted of the frames, and what holds of the work between calls: what lies on the shelf is what waits in the merger, and every frame is
+-- accounted for. Assumes nothing.
 use mathlib.Core.Path.{_≡_}
 use mathlib.Core.Bool.{Bool, true, false}
 use Prim.Native.Nat.{ℕ, _+_, _-_, _^_, _≤_, _<_}
@@ -59,8 +59,8 @@ takesIn Double = 0
 takesIn Late = 0
 takesIn (Refused r) = 0
 
--- A release's answer, where `out` frames were taken out, counted: of a position that is handed on one frame is in the journal, and the other one, where there is one,
--- gave way to it
+-- A release's answer, where `out` frames were taken out, counted: of a position that is handed on one frame is in the journal, and the other one,
+-- where there is one, gave way to it
 abbrev pub goneBy : Released → ℕ → Gone → Gone
 goneBy (Frame r) out g = record { released = g .released + 1; others = g .others + (out - 1); passed = g .passed }
 goneBy PassedOver out g = record { released = g .released; others = g .others; passed = g .passed + out }

@@ -1,4 +1,4 @@
-// What two recordings are merged with, what holds of it between calls, and what is counted of the frames. Nothing runs here.
+// States what two recordings are merged with, what holds of it between calls, and what is counted of the frames. Nothing runs here.
 //
 // Read specs/Accounts.antt for what is counted and what holds, specs/Statements.antt for what follows: each statement is the `ensures` of an empty function,
 // so that it cannot vanish.
@@ -7,7 +7,7 @@ use journal_rules::Earlier;
 use merger::Merger;
 use merging_shelf::Shelf;
 
-// What the merger answered to the frames that were handed in: taken in, late, their place taken, or refused.
+// Counts what the merger answered to the frames that were handed in: taken in, late, their place taken, or refused.
 pub struct Answered {
     pub kept: u64,
     pub late: u64,
@@ -15,14 +15,14 @@ pub struct Answered {
     pub refused: u64,
 }
 
-// Of the frames taken in, those that wait no longer: in the journal, gave way to the other stream's frame of their position, or passed over.
+// Counts those of the frames taken in that wait no longer: in the journal, gave way to the other stream's frame of their position, or passed over.
 pub struct Gone {
     pub released: u64,
     pub others: u64,
     pub passed: u64,
 }
 
-// All that a merge carries from call to call: the merger, the waiting frames of both streams, the frame written last, and the two counts.
+// Holds all that a merge carries from call to call: the merger, the waiting frames of both streams, the frame written last, and the two counts.
 pub struct Work {
     pub merger: Merger,
     pub shelf: Shelf,

@@ -1,5 +1,5 @@
-// Two recordings side by side, dibit by dibit: the primary's is pushed, then the alternate's; every frame goes into the merger with the hard decoder's yes or no; then
-// all that is ready is released with both settled offsets. A recording that has ended is absent.
+// Walks over two recordings side by side, dibit by dibit: the primary's is pushed, then the alternate's; every frame goes into the merger with the hard
+// decoder's yes or no; then all that is ready is released with both settled offsets. A recording that has ended is absent.
 // Where no dibit can search, send or be refused in either stream, a stretch of them is fed at once: dibit by dibit nothing else would come of it.
 ghost use mathlib.Core.Path.{_≡_};
 ghost use mathlib.Core.Bool.{true, false};
@@ -26,7 +26,7 @@ use sync_rules::ROOM_SIZE;
 use sync_steps::Numbers;
 use sync_steps::feed_into;
 
-// The synchronisers of the primary and of the alternate, and what is made of their frames.
+// Holds the synchronisers of the primary and of the alternate, and what is made of their frames.
 pub struct Recordings {
     pub first: Synchroniser,
     pub second: Synchroniser,
@@ -34,7 +34,7 @@ pub struct Recordings {
     pub ended: bool,
 }
 
-// What a dibit, or a calm stretch, of a stream brought: how far it is settled, the numbers of its synchroniser and the frames that went out.
+// Says what a dibit, or a calm stretch, of a stream brought: how far it is settled, the numbers of its synchroniser and the frames that went out.
 pub struct Brought {
     pub settled: Clock,
     pub numbers: Numbers,
@@ -89,7 +89,7 @@ fn take(
     }
 }
 
-// How many of `all` dibits are left from dibit i on.
+// Tells how many of `all` dibits are left from dibit i on.
 fn left_of(all: usize, i: usize) -> usize
     ensures { λ r. ⌜ r ≡ all - i ⌝ }
 {
@@ -99,7 +99,8 @@ fn left_of(all: usize, i: usize) -> usize
     all - i
 }
 
-// Whether a frame has come, or what waits first is ready. The work is handed on only then: it is 3 KB, and is copied at every call that changes it.
+// Tells whether a frame has come, or what waits first is ready. The work is handed on only then: it is 3 KB, and is copied at every call that changes
+// it.
 fn stirs(m: Merger, primary: Brought, alternate: Brought) -> bool
     requires { ⌜ ValidMerger m ⌝ }
     ensures calm { λ r. ⌜ (r ≡ false → NothingToDo primary alternate m) ⌝ }
@@ -155,7 +156,7 @@ fn made_of(
     release_all(work, settled, other, false)
 }
 
-// The greater of two lengths.
+// Gives the greater of two lengths.
 fn longer(a: usize, b: usize) -> usize
     ensures { λ r. ⌜ r ≡ max a b ⌝ }
 {
@@ -173,13 +174,14 @@ fn held_in(bits: [u8; MOST_HELD], reliabilities: [u8; MOST_HELD], numbers: Numbe
     }
 }
 
-// Walks over the dibits of two pieces that begin at the same time. Where neither stream searches or sends, nothing becomes ready: such a stretch is fed at once.
+// Walks over the dibits of two pieces that begin at the same time. Where neither stream searches or sends, nothing becomes ready: such a stretch is fed
+// at once.
 pub fn merge_pieces(r: Recordings, table: &[u8], primary: &[u8], alternate: &[u8]) -> Recordings
     requires { ⌜ PairedIn r ⌝ ∗ ⌜ length (now primary) ≤ 4096 ⌝ ∗ ⌜ length (now alternate) ≤ 4096 ⌝ }
     ensures { λ s. ⌜ PairedIn s ⌝ }
     ensures walked { λ s. ⌜ Walk (max (4 * length (now (primary .entry))) (4 * length (now (alternate .entry)))) (dibitsOf (now (primary .entry))) (dibitsOf (now (alternate .entry))) (standing r) (standing s) ⌝ }
 {
-    // of the primary's synchroniser bits, rels and numbers, of the alternate's others, their and figures
+    // bits, rels and numbers are the primary's synchroniser, others, their and figures the alternate's
     let first = r.first;
     let second = r.second;
     let mut bits = first.bits;

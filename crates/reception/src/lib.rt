@@ -1,4 +1,4 @@
-// Packed dibits from an open file, highest dibit first in a byte, through the synchroniser: its frames, one after the other.
+// Feeds packed dibits from an open file, highest dibit first in a byte, to the synchroniser, and gives its frames one after the other.
 // A reception goes from call to call by value. `receive` gives a frame, or none yet; `has_ended` says that there will be none.
 ghost use mathlib.Core.Path.{_≡_};
 ghost use mathlib.Core.Bool.{true};
@@ -15,8 +15,8 @@ use sync_rules::ROOM_SIZE;
 use sync_rules::SLOT_SIZE;
 use sync_rules::no_head;
 
-// The file, whether it may hold more, and the piece that was read last, with how many of its dibits are taken.
-// The synchroniser, the frames of its last push, and how many of them were given. How many frames were given in all, and the last of them.
+// Holds the file, whether it may have more, and the piece that was read last, with how many of its dibits are taken; the synchroniser, the frames of its
+// last push, and how many of them were given; how many frames were given in all, and the last of them.
 pub struct Reception {
     pub fd: i32,
     pub more: bool,
@@ -32,19 +32,20 @@ pub struct Reception {
     pub earlier: Earlier,
 }
 
-// What is left of a reception when it ends: how many frames were given, whether the input was taken whole, and the synchroniser.
+// Says what is left of a reception when it ends: how many frames were given, whether it had ended with no frame left to give, and the synchroniser.
 pub struct Heard {
     pub frames: u64,
     pub whole: bool,
     pub sync: Synchroniser,
 }
 
+// Says what a call gives: a frame, or none yet.
 pub enum Next {
     Frame(Head),
     NoFrame,
 }
 
-// What comes next, its envelope (zeros where there is no frame), and the frame before it.
+// Hands back what comes next, its envelope (zeros where there is no frame), and the frame before it.
 pub struct Received {
     pub next: Next,
     pub envelope: [u8; 48],
@@ -52,7 +53,7 @@ pub struct Received {
     pub reception: Reception,
 }
 
-// Nothing read yet.
+// Begins a reception of which nothing is read.
 pub fn opened(fd: i32) -> Reception
     ensures ready { λ r. ⌜ SoundReception r ⌝ }
     ensures given { λ r. ⌜ r .frames ≡ 0 ⌝ }
@@ -75,7 +76,7 @@ pub fn opened(fd: i32) -> Reception
     }
 }
 
-// The envelope of frame k of a push.
+// Copies the envelope of frame k of a push.
 fn envelope_of(room: [u8; ROOM_SIZE], k: usize) -> [u8; 48]
     requires { ⌜ k < 3 ⌝ }
     ensures { λ r. ⌜ r ≡ take 48 (drop (slotSize * k) room) ⌝ }
@@ -87,7 +88,7 @@ fn envelope_of(room: [u8; ROOM_SIZE], k: usize) -> [u8; 48]
     envelope
 }
 
-// The next frame of the last push.
+// Gives the next frame of the last push.
 fn give(r: Reception) -> Received
     requires { ⌜ SoundReception r ⌝ ∗ ⌜ r .given < r .count ⌝ }
     ensures ready { λ s. ⌜ SoundReception (s .reception) ⌝ }
@@ -124,7 +125,7 @@ fn give(r: Reception) -> Received
     }
 }
 
-// A refused push is the last.
+// Tells whether pushes go on: a refused one is the last.
 fn goes_on(answer: Push) -> bool {
     match answer {
         Push::Taken => true,
@@ -135,7 +136,7 @@ fn goes_on(answer: Push) -> bool {
     }
 }
 
-// The next dibits of the piece, up to a push that sends frames.
+// Takes the next dibits of the piece, up to a push that sends frames.
 fn feed(r: Reception) -> Reception
     requires { ⌜ SoundReception r ⌝ ∗ ⌜ r .count ≤ r .given ⌝ }
     ensures ready { λ s. ⌜ SoundReception s ⌝ }
@@ -171,7 +172,7 @@ fn feed(r: Reception) -> Reception
     }
 }
 
-// The next piece of the file.
+// Reads the next piece of the file.
 fn refill(r: Reception) -> Reception
     requires { ⌜ SoundReception r ⌝ ∗ ⌜ r .count ≤ r .given ⌝ }
     ensures ready { λ s. ⌜ SoundReception s ⌝ }
@@ -199,6 +200,7 @@ fn refill(r: Reception) -> Reception
     }
 }
 
+// Hands back a reception that has no frame to give.
 fn without_frame(r: Reception) -> Received
     requires { ⌜ SoundReception r ⌝ }
     ensures ready { λ s. ⌜ SoundReception (s .reception) ⌝ }
@@ -214,7 +216,7 @@ fn without_frame(r: Reception) -> Received
     }
 }
 
-// A frame that waits to be given; or else the file is read on, and there is none yet.
+// Gives a frame that waits; else takes dibits or reads on, and there is none yet.
 pub fn receive(r: Reception) -> Received
     requires { ⌜ SoundReception r ⌝ }
     ensures ready { λ s. ⌜ SoundReception (s .reception) ⌝ }
@@ -230,7 +232,7 @@ pub fn receive(r: Reception) -> Received
     without_frame(refill(r))
 }
 
-// Whether nothing more comes: the file has ended or a push was refused, and no frame waits.
+// Tells whether nothing more comes: the file has ended or a push was refused, and no frame waits.
 pub fn has_ended(more: bool, given: usize, count: usize) -> bool
     ensures { λ r. ⌜ (r ≡ true → count ≤ given) ⌝ }
 {
@@ -240,7 +242,7 @@ pub fn has_ended(more: bool, given: usize, count: usize) -> bool
     count <= given
 }
 
-// What is left when it ends.
+// Closes a reception.
 pub fn closed(r: Reception) -> Heard
     requires { ⌜ SoundReception r ⌝ }
     ensures told { λ h. ⌜ Told h ⌝ }

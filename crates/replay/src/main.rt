@@ -1,6 +1,6 @@
 // replay
 // Runs a case list from standard input over the libraries and says where an answer is not the expected one.
-// docs/REPLAY.md has the list's format. The first ten differences, and last `cases N differences D`, or `bad list at case N`.
+// docs/REPLAY.md has the list's format. Prints the first ten differences, and last `cases N differences D` or `bad list at case N`.
 
 // The crate `replay_list` reads the list and prints; a case is answered by its kind in `replay_voice` (1 to 11), `replay_sync` (12 to 14, 18 to 20) and
 // `replay_merger` (15 to 17).
@@ -53,6 +53,7 @@ fn replayed(window: &mut [u8], table: &mut [u8], room: &mut [u8], out: &mut [u8]
     }
 }
 
+// Lends all the memory that a run needs.
 fn main() {
     let mut window = io::large_buffer();
     let mut table = [0u8; 256];

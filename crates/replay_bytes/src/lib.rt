@@ -11,7 +11,7 @@ ghost use Rattle.replay_bytes.specs.Answers.{written};
 ghost use Rattle.replay_bytes.specs.Bytes.{Put, flagByte, lastBytes, signedByte, signedBytes, threeBytes, twosByte, twosComeBack};
 use bits::Writing;
 
-// A byte of the input. Past its end there are zeros.
+// Reads a byte of the input. Past its end there are zeros.
 pub fn at(input: &[u8], i: usize) -> u8
     ensures { λ r. ⌜ r ≡ getD (now (input .entry)) i 0 ⌝ }
 {
@@ -21,20 +21,21 @@ pub fn at(input: &[u8], i: usize) -> u8
     0
 }
 
-// The number of two bytes.
+// Reads two bytes as a number.
 pub fn pair(high: u8, low: u8) -> usize
     ensures { λ r. ⌜ (r ≡ 256 * high + low) × (r < 65536) ⌝ }
 {
     256 * bits::wide(high) + bits::wide(low)
 }
 
+// Reads four bytes as a number.
 fn four(a: u8, b: u8, c: u8, d: u8) -> u64
     ensures { λ r. ⌜ (r ≡ valueOf (a ∷ b ∷ c ∷ d ∷ [])) × (r < 4294967296) ⌝ }
 {
     (pair(a, b) as u64) * 65536 + pair(c, d) as u64
 }
 
-// The number of the first eight bytes.
+// Reads the first eight bytes as a number.
 pub fn number(bytes: &[u8]) -> u64
     ensures { λ r. ⌜ r ≡ valueOf (tab 8 (λ i. getD (now (bytes .entry)) i 0)) ⌝ }
 {
@@ -42,13 +43,14 @@ pub fn number(bytes: &[u8]) -> u64
     high * 4294967296 + four(at(bytes, 4), at(bytes, 5), at(bytes, 6), at(bytes, 7))
 }
 
-// In place of an answer's length, where the input does not fit the kind.
+// Stands in place of an answer's length where the input does not fit the kind.
 pub fn no_case() -> usize
     ensures { λ r. ⌜ r ≡ 4096 ⌝ }
 {
     4096
 }
 
+// Puts a byte at a place, if the memory reaches so far, and gives the place behind it.
 pub fn put(out: &mut [u8], place: usize, x: u8) -> usize
     ensures { λ r. ⌜ Put (now (out .entry)) place (x ∷ []) (now (out .exit)) r ⌝ }
 {
@@ -59,6 +61,7 @@ pub fn put(out: &mut [u8], place: usize, x: u8) -> usize
     out.len()
 }
 
+// Gives the smaller of two.
 fn smaller(a: usize, b: usize) -> usize
     ensures { λ r. ⌜ r ≡ min a b ⌝ }
 {
@@ -68,6 +71,7 @@ fn smaller(a: usize, b: usize) -> usize
     b
 }
 
+// Puts bytes from a place on, as many as the memory holds, and gives the place behind them.
 pub fn put_all(out: &mut [u8], place: usize, bytes: &[u8]) -> usize
     ensures { λ r. ⌜ Put (now (out .entry)) place (now (bytes .entry)) (now (out .exit)) r ⌝ }
 {
@@ -93,7 +97,7 @@ pub fn put_written(out: &mut [u8], writing: Writing, bytes: &[u8]) -> usize
     }
 }
 
-// 1 for yes.
+// Puts 1 for yes, 0 for no.
 pub fn put_flag(out: &mut [u8], place: usize, flag: bool) -> usize
     ensures { λ r. ⌜ Put (now (out .entry)) place (flagByte flag ∷ []) (now (out .exit)) r ⌝ }
 {
@@ -103,7 +107,7 @@ pub fn put_flag(out: &mut [u8], place: usize, flag: bool) -> usize
     put(out, place, 0)
 }
 
-// A number in as many bytes as asked, up to eight, high byte first.
+// Puts a number in as many bytes as asked, up to eight, high byte first.
 pub fn put_number(out: &mut [u8], place: usize, x: u64, width: usize) -> usize
     ensures { λ r. ⌜ Put (now (out .entry)) place (lastBytes width x) (now (out .exit)) r ⌝ }
 {
@@ -112,7 +116,7 @@ pub fn put_number(out: &mut [u8], place: usize, x: u64, width: usize) -> usize
     put_all(out, place, &bytes[first..])
 }
 
-// How many of eight bytes stand before the last `width`.
+// Counts the bytes of eight that stand before the last `width`.
 fn left_out(width: usize) -> usize
     ensures { λ r. ⌜ (r ≡ 8 - width) × (r < 9) ⌝ }
 {
@@ -122,7 +126,7 @@ fn left_out(width: usize) -> usize
     0
 }
 
-// A number with its sign: 1 where it is below zero, then its amount.
+// Puts a number with its sign: 1 where it is below zero, then its amount.
 pub fn put_signed(out: &mut [u8], place: usize, n: i64, width: usize) -> usize
     ensures { λ r. ⌜ Put (now (out .entry)) place (signedBytes width n) (now (out .exit)) r ⌝ }
 {
@@ -130,13 +134,14 @@ pub fn put_signed(out: &mut [u8], place: usize, n: i64, width: usize) -> usize
     put_number(out, next, bits::amount(n), width)
 }
 
+// Tells whether a number is below zero.
 fn below_zero(n: i64) -> bool
     ensures { λ r. ⌜ r ≡ ltZ n (pos 0) ⌝ }
 {
     n < 0
 }
 
-// A number from -128 to 127 in a byte, in two's complement. The way round by -1 - n fits even where -n does not.
+// Puts a number from -128 to 127 in a byte, in two's complement. The way round by -1 - n fits even where -n does not.
 fn put_twos(out: &mut [u8], place: usize, n: i8) -> usize
     ensures { λ r. ⌜ Put (now (out .entry)) place (twosByte n ∷ []) (now (out .exit)) r ⌝ }
 {
@@ -147,7 +152,7 @@ fn put_twos(out: &mut [u8], place: usize, n: i8) -> usize
     put(out, place, n as u8)
 }
 
-// Three such numbers, as a frame's moves are.
+// Puts three such numbers, as a frame's moves are.
 pub fn put_three(out: &mut [u8], place: usize, a: i8, b: i8, c: i8) -> usize
     ensures { λ r. ⌜ Put (now (out .entry)) place (threeBytes a b c) (now (out .exit)) r ⌝ }
 {
@@ -156,7 +161,7 @@ pub fn put_three(out: &mut [u8], place: usize, a: i8, b: i8, c: i8) -> usize
     put_twos(out, third, c)
 }
 
-// A byte read as a number in two's complement.
+// Reads a byte as a number in two's complement.
 pub fn signed(byte: u8) -> i8
     ensures { λ r. ⌜ r ≡ signedByte byte ⌝ }
 {

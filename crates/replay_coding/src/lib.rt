@@ -7,14 +7,14 @@ use replay_bytes::put;
 use replay_bytes::put_number;
 use replay_bytes::put_written;
 
-// Kind 1: a message.
+// Answers kind 1: the CRC-16 of a message.
 pub fn crc(message: &[u8], out: &mut [u8]) -> usize
     ensures { λ r. ⌜ Told (crcCase (now (message .entry))) (now (out .entry)) (now (out .exit)) r ⌝ }
 {
     put_number(out, 0, coding::crc16(message) as u64, 2)
 }
 
-// Kind 2: a word.
+// Answers kind 2: a word, scrambled.
 pub fn scrambled(word: &[u8], out: &mut [u8]) -> usize
     ensures { λ r. ⌜ Told (scrambleCase (now (word .entry))) (now (out .entry)) (now (out .exit)) r ⌝ }
 {
@@ -23,7 +23,7 @@ pub fn scrambled(word: &[u8], out: &mut [u8]) -> usize
     put_written(out, writing, &envelope)
 }
 
-// Kind 3: an envelope.
+// Answers kind 3: an envelope, descrambled.
 pub fn descrambled(envelope: &[u8], out: &mut [u8]) -> usize
     ensures { λ r. ⌜ Told (descrambleCase (now (envelope .entry))) (now (out .entry)) (now (out .exit)) r ⌝ }
 {
@@ -32,7 +32,7 @@ pub fn descrambled(envelope: &[u8], out: &mut [u8]) -> usize
     put_written(out, writing, &word)
 }
 
-// Kind 4: two bytes.
+// Answers kind 4: two bytes in the field.
 pub fn field_pair(input: &[u8], out: &mut [u8]) -> usize
     ensures { λ r. ⌜ Told (fieldCase (now (input .entry))) (now (out .entry)) (now (out .exit)) r ⌝ }
 {

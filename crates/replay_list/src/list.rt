@@ -4,7 +4,7 @@ ghost use lib.ListN.{length};
 ghost use Rattle.replay_list.specs.Windows.{Within};
 use replay_bytes::pair;
 
-// The longest input and the longest answer of a case.
+// No input and no answer of a case is longer.
 const MOST_BYTES: usize = 4000;
 
 // A case in the window: its input lies from `input` to `middle`, its expected answer from `expected` to `next`. The bytes read end at `end`.

@@ -1,12 +1,14 @@
-// What is printed: differences, and the last line.
+// Prints differences, and the last line.
 use crate::tally::Tally;
 
+// Prints bytes, two hexadecimal digits each.
 fn print_all_hex(bytes: &[u8]) {
     for i in 0..bytes.len() {
         io::print_hex(1, bits::wide(bytes[i]) as u64, 2);
     }
 }
 
+// Prints a word and a number behind it.
 fn print_number(word: &[u8], n: u64) {
     io::write_all(1, word);
     io::print_decimal(1, n);

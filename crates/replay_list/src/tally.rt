@@ -1,4 +1,4 @@
-// What was found so far: answers held to the expected ones, and counted.
+// Holds answers to the expected ones, and counts what was found so far.
 ghost use Prim.Native.Nat.{_≤_};
 ghost use lib.ListN.{length};
 ghost use Rattle.replay_list.specs.Windows.{Within};
@@ -6,7 +6,7 @@ use crate::list::Case;
 use crate::report;
 use replay_bytes::no_case;
 
-// How many cases were run, how many of them differed, and whether to go on: not behind the list's end, nor behind a case that is none.
+// Says how many cases were run, how many of them differed, and whether to go on: not behind the list's end, nor behind a case that is none.
 pub struct Tally {
     pub cases: u64,
     pub differences: u64,

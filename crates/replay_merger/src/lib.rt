@@ -20,7 +20,7 @@ use replay_merger_bytes::head_in;
 use replay_merger_bytes::pushed_number;
 use replay_merger_bytes::put_release;
 
-// The merger after the case, and the answer's length.
+// Hands back the merger after the case, and the answer's length.
 pub struct Merged {
     pub size: usize,
     pub merger: Merger,
@@ -36,7 +36,7 @@ fn pushed_in(m: Merger, input: &[u8]) -> AfterPush
     m.push(stream, head, eight(input, 14), at(input, 22) == 1)
 }
 
-// Kind 16: stream, offset, matched, errors, moves, number, yes.
+// Answers kind 16, a push: stream, offset, matched, errors, moves, number, yes.
 pub fn merger_pushed(m: Merger, input: &[u8], out: &mut [u8]) -> Merged
     requires { ⌜ ValidMerger m ⌝ }
     ensures { λ r. ⌜ ToldBy m (pushCase (now (input .entry)) (viewOf m)) (now (out .entry)) (now (out .exit)) r ⌝ }
@@ -56,7 +56,7 @@ pub fn merger_pushed(m: Merger, input: &[u8], out: &mut [u8]) -> Merged
     }
 }
 
-// The merger after a release, and the place behind its frame's bytes. `going` is false where nothing was ready.
+// Hands back the merger after a release, and the place behind its frame's bytes. `going` is false where nothing was ready.
 struct Step {
     going: bool,
     length: usize,
@@ -100,8 +100,8 @@ fn released_once(
     }
 }
 
-// Releases until nothing is ready. Sixteen positions at most are pending, so the seventeenth release finds nothing ready, and the loop is left from within. How many went is
-// known then: its byte is put over a 0 at the front.
+// Releases until nothing is ready. Sixteen positions at most are pending, so the seventeenth release finds nothing ready, and the loop is left from
+// within. How many went is known then: its byte is put over a 0 at the front.
 fn all_released(m: Merger, first: Clock, second: Clock, flush: bool, out: &mut [u8]) -> Merged
     requires { ⌜ ValidMerger m ⌝ }
     ensures { λ r. ⌜ ToldBy m (releasedBy first second flush (viewOf m)) (now (out .entry)) (now (out .exit)) r ⌝ }
@@ -128,7 +128,7 @@ fn all_released(m: Merger, first: Clock, second: Clock, flush: bool, out: &mut [
     }
 }
 
-// Kind 17: flags (1 flush, 2 and 4: the first and the second settled offset is there), two settled offsets.
+// Answers kind 17, all releases: flags (1 flush, 2 and 4: the first and the second settled offset is there), two settled offsets.
 pub fn released(m: Merger, input: &[u8], out: &mut [u8]) -> Merged
     requires { ⌜ ValidMerger m ⌝ }
     ensures { λ r. ⌜ ToldBy m (releaseCase (now (input .entry)) (viewOf m)) (now (out .entry)) (now (out .exit)) r ⌝ }

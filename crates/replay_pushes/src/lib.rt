@@ -12,7 +12,7 @@ use sync::Push;
 use sync::Pushed;
 use sync::Synchroniser;
 
-// The synchroniser after the case, and the answer's length.
+// Hands back the synchroniser after the case, and the answer's length.
 pub struct Synchronised {
     pub size: usize,
     pub sync: Synchroniser,

@@ -10,7 +10,7 @@ use replay_pushes::put_fed;
 use replay_pushes::put_pushed;
 use sync::Synchroniser;
 
-// Kind 13: a dibit, and perhaps the room's size.
+// Answers kind 13, a push: a dibit, and perhaps the room's size.
 pub fn pushed(s: Synchroniser, input: &[u8], room: &mut [u8], out: &mut [u8]) -> Synchronised
     requires { ⌜ ValidSynchroniser s ⌝ }
     ensures { λ r. ⌜ ToldBy s (pushedCase (now (room .entry)) (now (input .entry)) (view s)) (now (room .exit)) (now (out .entry)) (now (out .exit)) r ⌝ }
@@ -30,7 +30,7 @@ pub fn pushed(s: Synchroniser, input: &[u8], room: &mut [u8], out: &mut [u8]) ->
     put_pushed(out, 0, p, &*room)
 }
 
-// Kind 14: a dibit and two reliabilities.
+// Answers kind 14, a soft push: a dibit and two reliabilities.
 pub fn pushed_soft(s: Synchroniser, input: &[u8], room: &mut [u8], out: &mut [u8]) -> Synchronised
     requires { ⌜ ValidSynchroniser s ⌝ }
     ensures { λ r. ⌜ ToldBy s (pushCase (now (room .entry)) (softPush (now (input .entry))) (view s)) (now (room .exit)) (now (out .entry)) (now (out .exit)) r ⌝ }
@@ -39,7 +39,7 @@ pub fn pushed_soft(s: Synchroniser, input: &[u8], room: &mut [u8], out: &mut [u8
     put_pushed(out, 0, p, &*room)
 }
 
-// Kind 18: dibits.
+// Answers kind 18, a feed: dibits.
 pub fn fed(s: Synchroniser, input: &[u8], room: &mut [u8], out: &mut [u8]) -> Synchronised
     requires { ⌜ ValidSynchroniser s ⌝ }
     ensures { λ r. ⌜ ToldBy s (fedCase (now (room .entry)) (now (input .entry)) (view s)) (now (room .exit)) (now (out .entry)) (now (out .exit)) r ⌝ }
@@ -48,7 +48,7 @@ pub fn fed(s: Synchroniser, input: &[u8], room: &mut [u8], out: &mut [u8]) -> Sy
     put_fed(out, f, &*room)
 }
 
-// Kind 19: how many dibits, the dibits, and their reliabilities.
+// Answers kind 19, a soft feed: how many dibits, the dibits, and their reliabilities.
 pub fn fed_soft(s: Synchroniser, input: &[u8], room: &mut [u8], out: &mut [u8]) -> Synchronised
     requires { ⌜ ValidSynchroniser s ⌝ }
     ensures { λ r. ⌜ ToldBy s (fedSoftCase (now (room .entry)) (now (input .entry)) (view s)) (now (room .exit)) (now (out .entry)) (now (out .exit)) r ⌝ }
@@ -64,7 +64,7 @@ pub fn fed_soft(s: Synchroniser, input: &[u8], room: &mut [u8], out: &mut [u8]) 
     put_fed(out, f, &*room)
 }
 
-// Kind 20: the first dibit's number, and packed dibits.
+// Answers kind 20, a packed feed: the first dibit's number, and packed dibits.
 pub fn fed_packed(s: Synchroniser, input: &[u8], room: &mut [u8], out: &mut [u8]) -> Synchronised
     requires { ⌜ ValidSynchroniser s ⌝ }
     ensures { λ r. ⌜ ToldBy s (fedPackedCase (now (room .entry)) (now (input .entry)) (view s)) (now (room .exit)) (now (out .entry)) (now (out .exit)) r ⌝ }

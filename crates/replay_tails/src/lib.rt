@@ -48,7 +48,7 @@ fn made_in(word: &mut [u8], out: &mut [u8]) -> usize
     put_all(out, next, &*word)
 }
 
-// Kind 5: a word.
+// Answers kind 5: a word gets its tail.
 pub fn made(word: &[u8], out: &mut [u8]) -> usize
     ensures { λ r. ⌜ Told (madeCase (now (word .entry))) (now (out .entry)) (now (out .exit)) r ⌝ }
 {
@@ -117,7 +117,7 @@ fn copy_repaired(whole: bool, named: bool, places: &[u8], bytes: &[u8], out: &mu
     repaired_in(whole, named, places, &mut lent[0..n], out)
 }
 
-// Kinds 6 and 7: the number of places, the places, and the bytes to be repaired; 255 stands for the call without erasures.
+// Answers kinds 6 and 7, a repair: the number of places, the places, and the bytes to be repaired; 255 stands for the call without erasures.
 pub fn repaired(whole: bool, input: &[u8], out: &mut [u8]) -> usize
     ensures { λ r. ⌜ Told (repairCase whole (now (input .entry))) (now (out .entry)) (now (out .exit)) r ⌝ }
 {

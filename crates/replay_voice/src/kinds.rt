@@ -1,7 +1,7 @@
-// A case of the kinds 1 to 11, all below the synchroniser, answered by its kind. The table in force goes on from case to case.
+// Answers a case of the kinds 1 to 11, all below the synchroniser, by its kind. The table in force goes on from case to case.
 use replay_bytes::no_case;
 
-// The answer's length, and how many bytes the table in force has.
+// Says the answer's length, and how many bytes the table in force has.
 pub struct Answered {
     pub size: usize,
     pub table: usize,

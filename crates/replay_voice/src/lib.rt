@@ -15,7 +15,7 @@ use voice_rules::Decoding;
 
 mod kinds;
 
-// Kind 8: a table.
+// Answers kind 8: whether a table is admitted.
 pub fn table(bytes: &[u8], out: &mut [u8]) -> usize
     ensures { λ r. ⌜ Told (tableCase (now (bytes .entry))) (now (out .entry)) (now (out .exit)) r ⌝ }
 {
@@ -25,7 +25,7 @@ pub fn table(bytes: &[u8], out: &mut [u8]) -> usize
     put(out, 0, bits::number_of(Refusal::Table))
 }
 
-// Kind 9: a flag and a payload.
+// Answers kind 9: a flag and a payload are encoded.
 pub fn encoded(table: &[u8], input: &[u8], out: &mut [u8]) -> usize
     ensures { λ r. ⌜ Told (encodeCase (now (table .entry)) (now (input .entry))) (now (out .entry)) (now (out .exit)) r ⌝ }
 {
@@ -37,6 +37,7 @@ pub fn encoded(table: &[u8], input: &[u8], out: &mut [u8]) -> usize
     put_written(out, writing, &envelope)
 }
 
+// Puts what a decoder answers: 0, the bits corrected and the payload, or the refusal's number.
 fn put_decoded(out: &mut [u8], d: Decoded) -> usize
     ensures { λ r. ⌜ Put (now (out .entry)) 0 (spoken d) (now (out .exit)) r ⌝ }
 {
@@ -52,14 +53,14 @@ fn put_decoded(out: &mut [u8], d: Decoded) -> usize
     }
 }
 
-// Kind 10: an envelope.
+// Answers kind 10: an envelope is decoded.
 pub fn decoded(table: &[u8], envelope: &[u8], out: &mut [u8]) -> usize
     ensures { λ r. ⌜ Told (decodeCase (now (table .entry)) (now (envelope .entry))) (now (out .entry)) (now (out .exit)) r ⌝ }
 {
     put_decoded(out, voice_frame::decode(table, envelope))
 }
 
-// Kind 11: the envelope's length, the envelope, and the reliabilities.
+// Answers kind 11, soft decoding: the envelope's length, the envelope, and the reliabilities.
 pub fn softly_decoded(table: &[u8], input: &[u8], out: &mut [u8]) -> usize
     ensures { λ r. ⌜ Told (softCase (now (table .entry)) (now (input .entry))) (now (out .entry)) (now (out .exit)) r ⌝ }
 {

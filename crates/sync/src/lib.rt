@@ -33,14 +33,14 @@ use sync_steps::put;
 use sync_steps::quiet_of;
 use sync_steps::sends;
 
-// The rings of held bits and of their reliabilities, and the numbers that say where in them the held bits lie.
+// Holds the rings of bits and of their reliabilities, and the numbers that say where in them the held bits lie.
 pub struct Synchroniser {
     pub bits: [u8; MOST_HELD],
     pub reliabilities: [u8; MOST_HELD],
     pub numbers: Numbers,
 }
 
-// The answer, how many frames went out, their heads (zero behind them), and the next synchroniser.
+// Says what a push answers, how many frames went out, their heads (zero behind them), and the next synchroniser.
 pub struct Pushed {
     pub answer: Push,
     pub count: usize,
@@ -48,13 +48,14 @@ pub struct Pushed {
     pub next: Synchroniser,
 }
 
-// How many dibits were taken, and the answer to the last push.
+// Says how many dibits were taken, and what the last push answered.
 pub struct Fed {
     pub used: usize,
     pub pushed: Pushed,
 }
 
 impl Synchroniser {
+    // Gives a synchroniser that has taken nothing.
     pub fn new() -> Self
         ensures { λ r. ⌜ ValidSynchroniser r ⌝ }
         ensures view { λ r. ⌜ view r ≡ start ⌝ }
@@ -83,7 +84,7 @@ impl Synchroniser {
         }
     }
 
-    // A hard dibit.
+    // Takes a hard dibit.
     pub fn push(self, dibit: u8, room: &mut [u8]) -> Pushed
         requires { ⌜ ValidSynchroniser self ⌝ }
         ensures { λ r. ⌜ PushedBy (now (room .entry)) (now (room .exit)) self (hard dibit) r ⌝ }
@@ -92,7 +93,7 @@ impl Synchroniser {
         one_push(self, x, room)
     }
 
-    // A dibit with the reliabilities of its two bits.
+    // Takes a dibit with the reliabilities of its two bits.
     pub fn push_soft(self, dibit: u8, first: u8, second: u8, room: &mut [u8]) -> Pushed
         requires { ⌜ ValidSynchroniser self ⌝ }
         ensures { λ r. ⌜ PushedBy (now (room .entry)) (now (room .exit)) self (record { dibit = dibit; ofFirst = first; ofSecond = second; soft = true }) r ⌝ }
@@ -101,7 +102,7 @@ impl Synchroniser {
         one_push(self, x, room)
     }
 
-    // Hard dibits one after the other, up to the first that sends frames or is refused. `used` of them were taken: the caller goes on with the rest.
+    // Takes hard dibits one after the other, up to the first that sends frames or is refused. `used` of them were taken: the caller goes on with the rest.
     pub fn feed(self, dibits: &[u8], room: &mut [u8]) -> Fed
         requires { ⌜ ValidSynchroniser self ⌝ }
         ensures { λ r. ⌜ FedBy (now (room .entry)) (now (room .exit)) (fedOf (length (now (room .entry))) (hardly (now (dibits .entry))) (view self)) r ⌝ }
@@ -122,7 +123,7 @@ impl Synchroniser {
         feed_answer(bits, reliabilities, d)
     }
 
-    // The same with two reliabilities for each dibit, as far as both slices reach.
+    // Takes dibits in the same way with two reliabilities each, as far as both slices reach.
     pub fn feed_soft(self, dibits: &[u8], reliable: &[u8], room: &mut [u8]) -> Fed
         requires { ⌜ ValidSynchroniser self ⌝ }
         ensures { λ r. ⌜ FedBy (now (room .entry)) (now (room .exit)) (fedOf (length (now (room .entry))) (softly (now (dibits .entry)) (now (reliable .entry))) (view self)) r ⌝ }
@@ -143,7 +144,7 @@ impl Synchroniser {
         feed_answer(bits, reliabilities, d)
     }
 
-    // Packed bytes, four dibits each, from dibit `start` on. A byte can be cut by a push that sends: the caller goes on with `start + used`.
+    // Takes packed bytes in the same way, four dibits each, from dibit `start` on. A push that sends can cut a byte: the caller goes on with `start + used`.
     pub fn feed_packed(self, bytes: &[u8], start: usize, room: &mut [u8]) -> Fed
         requires { ⌜ ValidSynchroniser self ⌝ }
         ensures { λ r. ⌜ FedBy (now (room .entry)) (now (room .exit)) (fedOf (length (now (room .entry))) (hardly (drop start (unpacked (now (bytes .entry))))) (view self)) r ⌝ }

@@ -7,17 +7,17 @@ pub fn calls_follow_the_rules()
     ensures { λ _. ⌜ callsFollow ⌝ }
 {}
 
-// Demand 3 over the calls: what any history of calls, refused ones among them, hands out.
+// States demand 3 over the calls: what any history of calls, refused ones among them, hands out.
 pub fn demand_three_of_calls()
     ensures { λ _. ⌜ demandCalls ⌝ }
 {}
 
-// What a feed does, by the pushes that it makes: no frame is lost, and nothing is pushed twice.
+// A feed does what the pushes do that it makes: no frame is lost, and nothing is pushed twice.
 pub fn feed_is_pushes()
     ensures { λ _. ⌜ feedRules ⌝ }
 {}
 
-// The end of the stream after any history of calls: with the net slip it is the bits pushed, and it stays below 2^42.
+// After any history of calls the end of the stream plus the net slip is the number of bits pushed, and it stays below 2^42.
 pub fn end_of_calls()
     ensures { λ _. ⌜ endCalls ⌝ }
 {}

@@ -36,7 +36,7 @@ use sync_rules::SLOT_SIZE;
 use sync_rules::no_head;
 use sync_rules::no_moves;
 
-// Where the third slot of the room begins.
+// The third slot of the room begins at this byte.
 const THIRD_SLOT: usize = 2 * SLOT_SIZE;
 
 // What is said of a frame, and the numbers that it leaves.

@@ -11,7 +11,7 @@ use bits::Refusal;
 use sync_rules::MOST_DIBITS;
 use sync_rules::ROOM_SIZE;
 
-// The answer to a push.
+// Says what a push answers: that it was taken, or why it is refused.
 pub enum Push {
     Taken,
     Refused(Refusal),
@@ -43,7 +43,7 @@ pub fn made(answer: Push) -> usize
     }
 }
 
-// What a push brings: a dibit, the reliabilities of its two bits, and whether it is a soft push. `more` is false where there is none to make.
+// Says what a push brings: a dibit, the reliabilities of its two bits, and whether it is a soft push. `more` is false where there is none to make.
 pub struct Given {
     pub more: bool,
     pub dibit: u8,
@@ -78,7 +78,7 @@ pub fn soft_given(dibit: u8, first: u8, second: u8) -> Given
     }
 }
 
-// What is fed: hard dibits, dibits with two reliabilities each, bytes of four hard dibits, or of such bytes so many dibits at most.
+// Says what is fed: hard dibits, dibits with two reliabilities each, bytes of four hard dibits, or of such bytes so many dibits at most.
 pub enum Source {
     Hard,
     Soft,

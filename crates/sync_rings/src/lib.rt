@@ -1,4 +1,4 @@
-// Two rings of 1,155 places, lent: reading the markers in the ring of bits, and writing a frame's bits and reliabilities into the lent room.
+// Reads the markers in a lent ring of bits, and writes a frame's bits and reliabilities from two lent rings into the lent room. A ring has 1,155 places.
 // The contracts speak of what stands in a ring from some place on (specs/Ring.antt); which places are held the crates above say.
 mod markers; // markers.rt: reading the ring of bits
 mod room; // room.rt: writing a frame into the lent room

@@ -48,7 +48,7 @@ pub struct StreamFigures {
     pub soft: bool, // a soft push has been made
 }
 
-// No moves.
+// Gives no moves.
 pub fn no_moves() -> Moves
     ensures { λ r. ⌜ r ≡ noMoves ⌝ }
 {
@@ -59,7 +59,7 @@ pub fn no_moves() -> Moves
     }
 }
 
-// The head of no frame: zeros.
+// Gives the head of no frame: zeros.
 pub fn no_head() -> Head
     ensures { λ r. ⌜ r ≡ noHead ⌝ }
 {
@@ -72,12 +72,12 @@ pub fn no_head() -> Head
     }
 }
 
-// Demand 3, over any list of pushes from a start.
+// States demand 3, over any list of pushes from a start.
 pub fn demand_three()
     ensures { λ _. ⌜ demand3 ⌝ }
 {}
 
-// Document 01's statements, of every state that pushes reach.
+// States what document 01 says of every state that pushes reach.
 pub fn synchroniser_rules()
     ensures { λ _. ⌜ rules ⌝ }
 {}

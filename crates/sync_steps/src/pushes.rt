@@ -24,7 +24,7 @@ use sync_rules::IN_PLACE_BITS;
 use sync_rules::MOST_HELD;
 use sync_rules::SEARCH_BITS;
 
-// The most bits that can be pending with nothing to do: with a lock, and without one.
+// No more bits can be pending with nothing to do: with a lock, and without one.
 const LOCKED_IDLE: usize = IN_PLACE_BITS - 1;
 
 const SEARCHING_IDLE: usize = SEARCH_BITS - 1;
@@ -155,7 +155,7 @@ pub fn quiet_of(k: Numbers) -> usize
     half_left(SEARCHING_IDLE, k.pending)
 }
 
-// What follows once the bits of a push are brought: a search where there is no lock, then the frames that are ready.
+// Goes on once the bits of a push are brought: searches where there is no lock, then sends the frames that are ready.
 pub fn sends<'a>(
     bits: &'a [u8; MOST_HELD],
     reliabilities: &'a [u8; MOST_HELD],

@@ -1,6 +1,6 @@
--- Document 02, A9: "For every admitted table and all received bits, the 94 bits the path search finds end in eight zeros, and no other 94 bits ending in eight zeros encode
--- nearer to what was received. The same for the soft search, with nearness the sum of the reliabilities of the disagreeing bits."
--- Assumes nothing.
+-- Document 02, A9: "For every admitted table and all received bits, the 94 bits the path search finds end in eight zeros, and no other 94 bits ending
+-- in eight zeros encode nearer to what was received. The same for the soft search, with nearness the sum of the reliabilities of the disagreeing
+-- bits." Assumes nothing.
 use mathlib.Core.List.{List}
 use mathlib.Core.Path.{_≡_}
 use Prim.Native.Nat.{ℕ, _+_, _<_, _≤_}
@@ -15,7 +15,8 @@ pub record Ended (x : List ℕ) : Type 0 where
   pub input : Input x
   pub zeros : (k : ℕ) → k < 8 → getD x (86 + k) 0 ≡ 0
 
--- how far coded bits c lie from received bits d: the sum of the weights of those that disagree. A punctured place (255 in the table) has no coded bit, so it counts for nobody
+-- how far coded bits c lie from received bits d: the sum of the weights of those that disagree. A punctured place (255 in the table) has no coded
+-- bit, so it counts for nobody
 unfoldable pub weightApart : List ℕ → List ℕ → List ℕ → ℕ
 weightApart weights c d = sum 176 (λ k. disagree (getD weights k 0) (getD c k 0) (getD d k 0))
 
@@ -23,8 +24,8 @@ weightApart weights c d = sum 176 (λ k. disagree (getD weights k 0) (getD c k 0
 pub record Nearest (away : List ℕ → ℕ) (x : List ℕ) : Type 0 where
   pub ended : Ended x
   pub least : (y : List ℕ) → Ended y → away x ≤ away y
-  -- "at equal cost the prior state below 128 wins": of equally near ones x has the zero at the last place in which they differ. Where all bits behind k agree, bit k of x is
-  -- not the greater
+  -- "at equal cost the prior state below 128 wins": of equally near ones x has the zero at the last place in which they differ. Where all bits behind
+  -- k agree, bit k of x is not the greater
   pub tie : (y : List ℕ) → Ended y → away y ≡ away x → (k : ℕ) → ((j : ℕ) → k < j → getD y j 0 ≡ getD x j 0) → getD x k 0 ≤ getD y k 0
 
 pub record NearestPath : Type 0 where

@@ -1,5 +1,5 @@
--- The least reliable places: picked one after the other, each the earliest of the least that are left, they come in the order of (key, place), and before all others.
--- Assumes nothing.
+-- The least reliable places: picked one after the other, each the earliest of the least that are left, they come in the order of (key, place), and
+-- before all others. Assumes nothing.
 use mathlib.Core.Bool.{Bool, true, false, cond}
 use mathlib.Core.List.{List, [], _∷_}
 use mathlib.Core.Path.{_≡_, refl, sym, ap, _∙_}

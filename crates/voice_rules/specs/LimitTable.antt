@@ -1,5 +1,5 @@
--- Document 01's limits as one table: for each attempt of each stage its tests, in their order, each with its limit. A test that measures nothing has the limit 0.
--- Assumes nothing.
+-- Document 01's limits as one table: for each attempt of each stage its tests, in their order, each with its limit. A test that measures nothing has
+-- the limit 0. Assumes nothing.
 use mathlib.Core.List.{List, [], _∷_, _++_, map}
 use mathlib.Core.Path.{_≡_}
 use Prim.Native.Nat.{ℕ}

@@ -1,6 +1,6 @@
--- Document 02, A9, of a decoding: where document 01 says "path search", "on the repaired word" in stage (b), in (c), "joint with the path search" in (d), and "weighted search" in
--- soft decoding, the nearest of all 94 bits that end in eight zeros are tried. `Nearest` stands in crate voice_path_rules, specs/Nearest.antt: there is one, and only one.
--- Assumes nothing.
+-- Document 02, A9, of a decoding: where document 01 says "path search", "on the repaired word" in stage (b), in (c), "joint with the path search" in
+-- (d), and "weighted search" in soft decoding, the nearest of all 94 bits that end in eight zeros are tried. `Nearest` stands in crate
+-- voice_path_rules, specs/Nearest.antt: there is one, and only one. Assumes nothing.
 use mathlib.Core.List.{List, [], _∷_}
 use mathlib.Core.Path.{_≡_}
 use Prim.Native.Nat.{ℕ, _-_}
@@ -22,7 +22,8 @@ use Rattle.voice_rules.specs.Soft.{softTrial, mendedTrials, softRepairs,
 abbrev pub bitsAway : List ℕ → List ℕ → List ℕ → ℕ
 bitsAway table word x = codedApart (convolved table x) (coded word)
 
--- the sum of the reliabilities of those that disagree: coded bit m is bit codedPlace m of the word, and that one lies at bit place (codedPlace m) of the envelope
+-- the sum of the reliabilities of those that disagree: coded bit m is bit codedPlace m of the word, and that one lies at bit place (codedPlace m) of
+-- the envelope
 abbrev pub reliabilityAway : List ℕ → List ℕ → List ℕ → List ℕ → ℕ
 reliabilityAway table word reliabilities x =
     sum 176 (λ m. disagree (getD reliabilities (place (codedPlace m)) 0) (getD (convolved table x) m 0) (bitLo word (codedPlace m)))
