@@ -7,6 +7,7 @@
 use merger::Merger;
 use replay_list::Tally;
 use replay_list::case_after;
+use replay_list::input_of;
 use replay_list::judged;
 use replay_list::no_whole_case;
 use replay_merger::merger_case;
@@ -31,20 +32,12 @@ fn replayed(window: &mut [u8], table: &mut [u8], room: &mut [u8], out: &mut [u8]
     while 0 < turns {
         turns -= 1;
         c = case_after(&mut *window, c);
-        let from = c.input;
-        let to = c.middle;
-        let one = coding_case(c.kind, &mut *table, tabled, &window[from..to], &mut *out);
+        let input = input_of(&*window, c);
+        let one = coding_case(c.kind, &mut *table, tabled, input, &mut *out);
         tabled = one.table;
-        let two = synchroniser_case(
-            c.kind,
-            one.size,
-            sync,
-            &window[from..to],
-            &mut *room,
-            &mut *out,
-        );
+        let two = synchroniser_case(c.kind, one.size, sync, input, &mut *room, &mut *out);
         sync = two.sync;
-        let three = merger_case(c.kind, two.size, merger, &window[from..to], &mut *out);
+        let three = merger_case(c.kind, two.size, merger, input, &mut *out);
         merger = three.merger;
         t = judged(t, &*window, c, &*out, three.size);
         if !t.going {

@@ -2,6 +2,7 @@
 // list.rt finds the next case, tally.rt holds an answer to the expected one, report.rt prints.
 pub use list::Case;
 pub use list::case_after;
+pub use list::input_of;
 pub use list::no_whole_case;
 pub use tally::Tally;
 pub use tally::judged;

@@ -99,3 +99,12 @@ pub fn case_after(window: &mut [u8], before: Case) -> Case
     let end = filled(&mut *window, at, before.end);
     case_at(&*window, 0, end)
 }
+
+// Gives the input of a case in the window.
+pub fn input_of<'a>(window: &'a [u8], c: Case) -> &'a [u8]
+    requires { ⌜ Within (length (now window)) c ⌝ }
+{
+    let from = c.input;
+    let to = c.middle;
+    &window[from..to]
+}

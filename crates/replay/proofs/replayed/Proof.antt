@@ -16,63 +16,45 @@ Inv-loop window₀ table₀ room₀ out₀ sync₀ merger₀ tabled₀ c₀ t₀
 abbrev μ-loop : tie.MeasureT-loop
 μ-loop window₀ table₀ room₀ out₀ sync₀ merger₀ tabled₀ c₀ t₀ turns₀ window table room out sync merger tabled c t turns = turns
 
-sub-merger-case : tie.Need-sub-merger-case Inv-loop μ-loop
-sub-merger-case c =
-    let found = c .before .before .before .before .before .before .before .before .before .before .before .before .before .before .before .before .before .before .before .before .before in
-    let inside = found .case-after .ensures in
-    search needs
-
-part-merger-case-start : tie.Need-part-merger-case-start Inv-loop μ-loop
-part-merger-case-start c =
-    let found = c .before .before .before .before .before .before .before .before .before .before .before .before .before .before .before .before .before .before .before .before .before .before in
-    let inside = found .case-after .ensures in
-    search needs
-
-part-merger-case-end : tie.Need-part-merger-case-end Inv-loop μ-loop
-part-merger-case-end c =
-    let found = c .before .before .before .before .before .before .before .before .before .before .before .before .before .before .before .before .before .before .before .before .before .before in
-    let inside = found .case-after .ensures in
-    search needs
-
 merger-case-requires : tie.Need-merger-case-requires Inv-loop μ-loop
 merger-case-requires c κs =
-    let at-loop = c .before .before .before .before .before .before .before .before .before .before .before .before .before .before .before .before .before .before .before .before .before .before .before .before .before .before .before in
+    let at-loop = c .before .before .before .before .before .before .before .before .before .before .before .before .before .before .before .before .before .before .before .before .before .before .before in
     at-loop .loop .inv .1
 
 judged-requires : tie.Need-judged-requires Inv-loop μ-loop
 judged-requires c κs =
-    let found = c .before .before .before .before .before .before .before .before .before .before .before .before .before .before .before .before .before .before .before .before .before .before .before .before .before .before .before .before .before .before in
+    let found = c .before .before .before .before .before .before .before .before .before .before .before .before .before .before .before .before .before .before .before .before .before .before .before .before .before .before in
     found .case-after .ensures
 
 same-length : tie.Need-same-length Inv-loop μ-loop
 same-length c =
-    let window = c .before .before .before .before .before .before .before .before .before .before .before .before .before .before .before .before .before .before .before .before .before .before .before .before .before .before .before .before .before .before .before .before in
-    let at-loop = window .before .before .before .before in
-    let now0 = window .window .given in
+    let held = c .before .before .before .before .before .before .before .before .before .before .before .before .before .before .before .before .before .before .before .before .before .before .before .before .before .before .before .before in
+    let at-loop = held .before .before .before .before in
+    let now0 = held .window .given in
     let before = at-loop .loop .inv .3 in
     search needs
 
 same-length-2 : tie.Need-same-length-2 Inv-loop μ-loop
 same-length-2 c =
-    let table = c .before .before .before .before .before .before .before .before .before .before .before .before .before .before .before .before .before .before .before .before .before .before .before .before .before in
-    let at-loop = table .before .before .before .before .before .before .before .before .before .before .before in
-    let now0 = table .table .given in
+    let held = c .before .before .before .before .before .before .before .before .before .before .before .before .before .before .before .before .before .before .before .before .before in
+    let at-loop = held .before .before .before .before .before .before .before .before .before .before .before in
+    let now0 = held .table .given in
     let before = at-loop .loop .inv .4 in
     search needs
 
 same-length-3 : tie.Need-same-length-3 Inv-loop μ-loop
 same-length-3 c =
-    let room = c .before .before .before .before .before .before .before .before .before .before .before .before .before .before .before .before in
-    let at-loop = room .before .before .before .before .before .before .before .before .before .before .before .before .before .before .before .before .before .before .before .before in
-    let now0 = room .room .given in
+    let held = c .before .before .before .before .before .before .before .before .before .before .before .before .before .before in
+    let at-loop = held .before .before .before .before .before .before .before .before .before .before .before .before .before .before .before .before .before .before in
+    let now0 = held .room .given in
     let before = at-loop .loop .inv .5 in
     search needs
 
 same-length-4 : tie.Need-same-length-4 Inv-loop μ-loop
 same-length-4 c =
     let three = c .before .before .before .before .before .before .before in
-    let two = three .before .before .before .before .before .before .before in
-    let one = two .before .before .before .before .before .before .before .before .before in
+    let two = three .before .before .before .before .before in
+    let one = two .before .before .before .before .before .before .before in
     let at-loop = one .before .before .before .before .before .before .before .before .before .before .before .before .before in
     let now0 = one .out .given in
     let now1 = two .out2 .given in
@@ -82,7 +64,7 @@ same-length-4 c =
 
 loop-less : tie.Need-loop-less Inv-loop μ-loop
 loop-less c =
-    let in-loop = c .before .before .before .before .before .before .before .before .before .before .before .before .before .before .before .before .before .before .before .before .before .before .before .before .before .before .before .before .before .before .before .before .before .before .before in
+    let in-loop = c .before .before .before .before .before .before .before .before .before .before .before .before .before .before .before .before .before .before .before .before .before .before .before .before .before .before .before .before .before .before .before in
     let more = in-loop .loop-test .taken in
     search needs
 
@@ -90,10 +72,10 @@ loop-again : tie.Need-loop-again Inv-loop μ-loop
 loop-again c =
     let three = c .before .before .before .before .before .before .before in
     let merger-case = three .before in
-    let two = merger-case .before .before .before .before .before .before in
+    let two = merger-case .before .before .before .before in
     let room = two .before .before in
     let synchroniser-case = room .before in
-    let one = synchroniser-case .before .before .before .before .before .before in
+    let one = synchroniser-case .before .before .before .before in
     let table = one .before .before in
     let window = table .before .before .before .before .before .before .before in
     let found = window .before in
@@ -119,17 +101,9 @@ replayed-spec =
     (λ c. search needs)
     (λ c. search needs)
     (λ c κs. search needs)
-    (λ c. search needs)
-    (λ c. search needs)
-    (λ c. search needs)
     (λ c κs. search needs)
-    (λ c. search needs)
-    (λ c. search needs)
-    (λ c. search needs)
     (λ c κs. search needs)
-    sub-merger-case
-    part-merger-case-start
-    part-merger-case-end
+    (λ c κs. search needs)
     merger-case-requires
     judged-requires
     same-length
