@@ -1,7 +1,8 @@
 // A case list, read through a window of bytes: where the parts of the next case lie, and the window filled up.
 ghost use Prim.Native.Nat.{_≤_};
+ghost use mathlib.Core.Path.{_≡_};
 ghost use lib.ListN.{length};
-ghost use Rattle.replay_list.specs.Windows.{Within};
+ghost use Rattle.replay_list.specs.Windows.{Within, inputIn};
 use replay_bytes::pair;
 
 // No input and no answer of a case is longer.
@@ -103,6 +104,7 @@ pub fn case_after(window: &mut [u8], before: Case) -> Case
 // Gives the input of a case in the window.
 pub fn input_of<'a>(window: &'a [u8], c: Case) -> &'a [u8]
     requires { ⌜ Within (length (now window)) c ⌝ }
+    ensures { λ r. ⌜ now r ≡ inputIn (now (window .entry)) c ⌝ }
 {
     let from = c.input;
     let to = c.middle;

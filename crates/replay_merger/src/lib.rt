@@ -6,6 +6,7 @@ ghost use lib.ListN.{length};
 ghost use Rattle.merger.specs.States.{viewOf};
 ghost use Rattle.merger_rules.specs.Merging.{releaseOf};
 ghost use Rattle.merger.specs.States.{PushGave, ValidMerger};
+ghost use Rattle.replay_merger.specs.Kinds.{Turned, turnOf};
 ghost use Rattle.replay_merger.specs.Merges.{Stepped, ToldBy, pushCase, pushIn, releaseCase, releasedBy};
 use merger::AfterPush;
 use merger::Clock;
@@ -148,7 +149,8 @@ pub fn released(m: Merger, input: &[u8], out: &mut [u8]) -> Merged
 // Answers a case by its kind, of 15 to 17. A case of another kind leaves the merger as it is, and the size of its answer is handed on.
 pub fn merger_case(kind: u8, size: usize, m: Merger, input: &[u8], out: &mut [u8]) -> Merged
     requires { ⌜ ValidMerger m ⌝ }
-    ensures { λ r. ⌜ ValidMerger (r .merger) ⌝ }
+    ensures { λ r. ⌜ Turned (turnOf kind (now (input .entry)) (viewOf m)) m size (now (out .entry)) (now (out .exit)) r ⌝ }
+    ensures sound { λ r. ⌜ ValidMerger (r .merger) ⌝ }
 {
     match kind {
         15 => Merged {

@@ -1,6 +1,7 @@
 // What a case of docs/REPLAY.md answers, of the kinds 13, 14 and 18 to 20: the synchroniser's pushes and feeds.
 // The answer's bytes go into lent memory; the synchroniser goes in and comes back by value.
 ghost use Rattle.sync.specs.View.{ValidSynchroniser, view};
+ghost use Rattle.replay_sync.specs.Kinds.{Turned, turnOf};
 ghost use Rattle.replay_sync.specs.Streams.{ToldBy, fedCase, fedPackedCase, fedSoftCase, pushCase, pushedCase, softPush};
 use replay_bytes::at;
 use replay_bytes::no_case;
@@ -89,7 +90,8 @@ pub fn synchroniser_case(
     out: &mut [u8],
 ) -> Synchronised
     requires { ⌜ ValidSynchroniser s ⌝ }
-    ensures { λ r. ⌜ ValidSynchroniser (r .sync) ⌝ }
+    ensures { λ r. ⌜ Turned (turnOf kind (now (room .entry)) (now (input .entry)) (view s)) s size (now (room .entry)) (now (room .exit)) (now (out .entry)) (now (out .exit)) r ⌝ }
+    ensures sound { λ r. ⌜ ValidSynchroniser (r .sync) ⌝ }
 {
     match kind {
         12 => Synchronised {

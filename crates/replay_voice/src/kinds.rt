@@ -1,4 +1,6 @@
 // Answers a case of the kinds 1 to 11, all below the synchroniser, by its kind. The table in force goes on from case to case.
+ghost use Rattle.replay_bytes.specs.Answers.{Told};
+ghost use Rattle.replay_voice.specs.Kinds.{CodedBy, codedCase, kindCase, tableSet};
 use replay_bytes::no_case;
 
 // Says the answer's length, and how many bytes the table in force has.
@@ -8,7 +10,9 @@ pub struct Answered {
 }
 
 // Keeps a table at the front of the lent memory, where it fits.
-fn new_table(table: &mut [u8], bytes: &[u8], out: &mut [u8]) -> Answered {
+fn new_table(table: &mut [u8], bytes: &[u8], out: &mut [u8]) -> Answered
+    ensures { λ r. ⌜ CodedBy (tableSet (now (table .entry)) (now (bytes .entry))) (now (table .exit)) (now (out .entry)) (now (out .exit)) r ⌝ }
+{
     let n = bytes.len();
     if table.len() < n {
         return Answered {
@@ -24,7 +28,9 @@ fn new_table(table: &mut [u8], bytes: &[u8], out: &mut [u8]) -> Answered {
 }
 
 // Answers a case that leaves the table in force as it is. No other kind has cases.
-fn answer(kind: u8, table: &[u8], input: &[u8], out: &mut [u8]) -> usize {
+fn answer(kind: u8, table: &[u8], input: &[u8], out: &mut [u8]) -> usize
+    ensures { λ r. ⌜ Told (kindCase kind (now (table .entry)) (now (input .entry))) (now (out .entry)) (now (out .exit)) r ⌝ }
+{
     match kind {
         1 => replay_coding::crc(input, out),
         2 => replay_coding::scrambled(input, out),
@@ -47,7 +53,9 @@ pub fn coding_case(
     tabled: usize,
     input: &[u8],
     out: &mut [u8],
-) -> Answered {
+) -> Answered
+    ensures { λ r. ⌜ CodedBy (codedCase kind (now (table .entry)) tabled (now (input .entry))) (now (table .exit)) (now (out .entry)) (now (out .exit)) r ⌝ }
+{
     if table.len() < tabled {
         return Answered {
             size: no_case(),

@@ -87,7 +87,7 @@ loop-again c =
     let o1 = one .out .given in
     let o2 = two .out2 .given in
     let o3 = three .out3 .given in
-    (synchroniser-case .synchroniser-case .ensures, merger-case .merger-case .ensures, found .case-after .ensures, search needs, search needs, search needs, search needs)
+    (synchroniser-case .synchroniser-case .ensures .1, merger-case .merger-case .ensures .1, found .case-after .ensures, search needs, search needs, search needs, search needs)
 
 pub replayed-spec : {M : Type 1} → statement M
 replayed-spec =
