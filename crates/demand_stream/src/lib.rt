@@ -1,17 +1,22 @@
-// Demand 1 as the contract of the calls themselves: each function makes one public call of the synchroniser, the merger or the journal with what it is
-// given and hands on its answer, so what it promises is what that call answers and leaves in lent memory. The contracts are in
+// Demand 1 as the contract of the calls themselves: each function makes one public call of the synchroniser, a recording, the merger or the journal
+// with what it is given and hands on its answer, so what it promises is what that call answers and leaves in lent memory. The contracts are in
 // crates/demands/specs/Demand1.antt.
 ghost use lib.ListN.{drop};
 ghost use Rattle.merger.specs.States.{ValidMerger};
+ghost use Rattle.recorder_lines.specs.Wants.{makingOf};
+ghost use Rattle.recorder_rules.specs.Steps.{ValidRecorder, dibitsOf};
 ghost use Rattle.sync_inputs.specs.Inputs.{hardly, softly, unpacked};
 ghost use Rattle.sync.specs.View.{ValidSynchroniser};
 ghost use Rattle.sync_rules.specs.State.{hard};
-ghost use Rattle.demands.specs.Demand1.{soft, PushRefuses, FeedRefuses, MergerRefuses, WritingRefuses, ReadingRefuses};
+ghost use Rattle.demands.specs.Demand1.{soft, PushRefuses, FeedRefuses, StepRefuses, MergerRefuses, WritingRefuses, ReadingRefuses};
 use bits::Writing;
 use journal::Entry;
 use journal::Reading;
 use merger::AfterPush;
 use merger::Merger;
+use recorder_lines::Wanted;
+use recorder_rules::Recorder;
+use recorder_rules::Stepped;
 use sync::Fed;
 use sync::Pushed;
 use sync::Synchroniser;
@@ -55,6 +60,15 @@ fn feed_packed(s: Synchroniser, bytes: &[u8], start: usize, room: &mut [u8]) -> 
     ensures { λ r. ⌜ FeedRefuses s (hardly (drop start (unpacked (now (bytes .entry))))) (now (room .entry)) r (now (room .exit)) ⌝ }
 {
     Synchroniser::feed_packed(s, bytes, start, room)
+}
+
+// Tests 2, the memory for a push's lines, and 3 of each packed dibit from `from` on in its turn, none of which is above 3; what is refused is one push,
+// the pushes before it stand, and nothing is written.
+fn list_step(r: Recorder, wanted: Wanted, bytes: &[u8], from: usize, out: &mut [u8]) -> Stepped
+    requires { ⌜ ValidRecorder r ⌝ }
+    ensures { λ a. ⌜ StepRefuses (makingOf wanted) r (dibitsOf (now (bytes .entry)) from) (now (out .entry)) a (now (out .exit)) ⌝ }
+{
+    recorder_lines::step(r, wanted, bytes, from, out)
 }
 
 // Tests 7, the stream, then 8, the offset, then late, then 9, the positions; refused or late, the merger itself comes back.

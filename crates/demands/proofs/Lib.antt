@@ -1,5 +1,6 @@
 pub mod RefusedSizes
 pub mod RefusedPushes
+pub mod RefusedSteps
 pub mod RefusedFrames
 pub mod OnlyJoint
 pub mod Starred

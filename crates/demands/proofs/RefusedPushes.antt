@@ -3,7 +3,7 @@
 use mathlib.Core.Bool.{Bool, true, false, cond}
 use mathlib.Core.List.{List, [], _∷_}
 use mathlib.Core.Logic.{_⊎_, inl, inr}
-use mathlib.Core.Path.{_≡_, refl, sym, ap, _∙_}
+use mathlib.Core.Path.{_≡_, refl, sym, ap, ap₂, _∙_}
 use Prim.Native.Nat.{ℕ, _^_, _<_, _≤_}
 use native.Mathlib.Omega.{arith}
 use lib.Dec.{leb, ltb}
@@ -27,11 +27,11 @@ use Rattle.sync_rules.specs.Frames.{Frame}
 use Rattle.sync_rules.specs.Pushes.{run}
 use Rattle.sync_rules.specs.Room.{laid}
 use Rattle.sync_rules.specs.State.{State, Input}
-use Rattle.demands.specs.Demand1.{test, firstNumber, Refuses, numberInPush, pushTests, nextTests, Unpushed, PushRefuses, FeedRefuses}
+use Rattle.demands.specs.Demand1.{Test, test, firstNumber, Refuses, numberInPush, pushTests, nextTests, Unpushed, PushRefuses, FeedRefuses}
 
 -- ---- a push
 
-push-cases : (a b c : Bool)
+pub push-cases : (a b c : Bool)
     → numberInPush (cond a (Refused Dibit) (cond b (Refused FrameRoom) (cond c (Refused StreamEnd) Taken))) ≡ firstNumber (test 1 a ∷ test 2 b ∷ test 3 c ∷ [])
 unfolding firstNumber
 push-cases true b c = refl
@@ -66,80 +66,81 @@ none-sent : (fs : List Frame) → length fs ≡ 0 → fs ≡ []
 none-sent [] h = refl
 none-sent (f ∷ fs) h = absurd (omega arith)
 
-module _ (room room′ : List ℕ) (s : Synchroniser) (inputs : List Input) (r : Fed) (fed : FedBy room room′ (fedOf (length room) inputs (view s)) r) where
+-- the pushes of a feed, whatever the tests of its next input are
+module _ (room : ℕ) (inputs : List Input) (m : State) where
   abbrev Out : FedOut
-  Out = fedOf (length room) inputs (view s)
+  Out = fedOf room inputs m
 
-  rule : FeedRule (length room) inputs (view s) Out
-  rule = feed-rules (length room) inputs (view s)
+  rule : FeedRule room inputs m Out
+  rule = feed-rules room inputs m
 
   -- a refused feed stopped before an input, and its answer is that to the push of this
-  pub record Stopped (f : Refusal) : Type 0 where
-    pub next : Input
-    pub rest : List Input
-    pub left : drop (r .used) inputs ≡ next ∷ rest
-    pub answer : Out .answer ≡ answerTo (length room) next (Out .next)
-    pub sent : Out .sent ≡ []
+  record Stopped (f : Refusal) : Type 0 where
+    next : Input
+    rest : List Input
+    left : drop (Out .used) inputs ≡ next ∷ rest
+    answer : Out .answer ≡ answerTo room next (Out .next)
+    sent : Out .sent ≡ []
 
   stopped : (f : Refusal) → Out .answer ≡ Refused f → Stopped f
   unfolding takes
-  stopped f e = by (drop (r .used) inputs) refl
+  stopped f e = by (drop (Out .used) inputs) refl
     where
       zero-taken : takes (Out .answer) ≡ 0
       zero-taken = ap takes e
 
-      by : (l : List Input) → drop (r .used) inputs ≡ l → Stopped f
+      by : (l : List Input) → drop (Out .used) inputs ≡ l → Stopped f
       by [] d =
           let short : Out .used < length inputs = rule .refused zero-taken in
-          let n : length (drop (r .used) inputs) ≡ 0 = ap length d in
-          absurd (omega (arith, length-drop (r .used) inputs, fed .used))
-      by (x ∷ xs) d =
-          let at = rule .stop .1 x xs zero-taken (ap (λ (n : ℕ). drop n inputs) (sym (fed .used)) ∙ d) in
-          record { next = x; rest = xs; left = d; answer = at .0; sent = at .1 }
+          let n : length (drop (Out .used) inputs) ≡ 0 = ap length d in
+          absurd (omega (arith, length-drop (Out .used) inputs))
+      by (x ∷ xs) d = let at = rule .stop .1 x xs zero-taken d in record { next = x; rest = xs; left = d; answer = at .0; sent = at .1 }
 
-  fed-refuses : r .pushed .count ≡ 0
-      → Refuses (nextTests room (view (r .pushed .next)) (drop (r .used) inputs)) (numberInPush (r .pushed .answer)) ((r .pushed .heads ≡ headsOf 3 []) × (room′ ≡ room))
-  unfolding laid firstNumber
-  fed-refuses zero-count =
-      record {
-        exactly = by (Out .answer) refl;
-        as-before = λ h. (fed .figures ∙ ap (headsOf 3) no-frame, fed .stored ∙ unlaid);
-      }
+  -- without a frame, its number is that of the next input's tests
+  pub fed-number : (tests : List Input → List Test) → firstNumber (tests []) ≡ 0
+      → ((x : Input) (xs : List Input) → numberInPush (answerTo room x (Out .next)) ≡ firstNumber (tests (x ∷ xs)))
+      → Out .sent ≡ [] → numberInPush (Out .answer) ≡ firstNumber (tests (drop (Out .used) inputs))
+  fed-number tests end next no-frame = by (Out .answer) refl
     where
-      no-frame : Out .sent ≡ []
-      no-frame = none-sent (Out .sent) (sym (fed .many) ∙ zero-count)
+      at-end : (Out .used ≡ length inputs) ⊎ (0 < length (Out .sent)) → drop (Out .used) inputs ≡ []
+      at-end (inl h) = let all : length inputs ≤ Out .used = omega arith in drop-of-length-le inputs all
+      at-end (inr h) = absurd (omega (arith, ap length no-frame))
 
-      unlaid : laid room 0 (Out .sent) ≡ room
-      unlaid = ap (laid room 0) no-frame
-
-      by : (a : Push) → Out .answer ≡ a → numberInPush (r .pushed .answer) ≡ firstNumber (nextTests room (view (r .pushed .next)) (drop (r .used) inputs))
-      by Taken e = ap numberInPush (fed .answer ∙ e) ∙ sym (ap (λ (l : List Input). firstNumber (nextTests room (view (r .pushed .next)) l)) (at-end (rule .stop .0 e)))
-        where
-          at-end : (Out .used ≡ length inputs) ⊎ (0 < length (Out .sent)) → drop (r .used) inputs ≡ []
-          at-end (inl h) = let all : length inputs ≤ r .used = omega (arith, fed .used) in drop-of-length-le inputs all
-          at-end (inr h) = absurd (omega (arith, fed .many))
+      by : (a : Push) → Out .answer ≡ a → numberInPush (Out .answer) ≡ firstNumber (tests (drop (Out .used) inputs))
+      by Taken e = ap numberInPush e ∙ sym end ∙ sym (ap (λ (l : List Input). firstNumber (tests l)) (at-end (rule .stop .0 e)))
       by (Refused f) e =
           let at = stopped f e in
-          ap numberInPush (fed .answer ∙ at .answer)
-          ∙ push-number room (at .next) (Out .next)
-          ∙ ap (λ (m : State). firstNumber (pushTests room m (at .next .dibit))) (sym (fed .next))
-          ∙ sym (ap (λ (l : List Input). firstNumber (nextTests room (view (r .pushed .next)) l)) (at .left))
+          ap numberInPush (at .answer) ∙ next (at .next) (at .rest) ∙ sym (ap (λ (l : List Input). firstNumber (tests l)) (at .left))
 
-  fed-sends : 0 < r .pushed .count → numberInPush (r .pushed .answer) ≡ 0
+  -- with a frame, it refuses nothing
+  pub fed-sends : 0 < length (Out .sent) → numberInPush (Out .answer) ≡ 0
   fed-sends some = by (Out .answer) refl
     where
-      by : (a : Push) → Out .answer ≡ a → numberInPush (r .pushed .answer) ≡ 0
-      by Taken e = ap numberInPush (fed .answer ∙ e)
-      by (Refused f) e = absurd (omega (arith, fed .many, ap length (stopped f e .sent)))
-
-  fed-rule : FeedRefuses s inputs room r room′
-  fed-rule =
-      record {
-        state = fed .next ∙ rule .next ∙ ap (λ (n : ℕ). run (take n inputs) (view s) .next) (sym (fed .used));
-        refuses = fed-refuses;
-        sends = fed-sends;
-      }
+      by : (a : Push) → Out .answer ≡ a → numberInPush (Out .answer) ≡ 0
+      by Taken e = ap numberInPush e
+      by (Refused f) e = absurd (omega (arith, ap length (stopped f e .sent)))
 
 pub feed-refuses : (s : Synchroniser) (inputs : List Input) (room : List ℕ) (r : Fed) (room′ : List ℕ)
     → FedBy room room′ (fedOf (length room) inputs (view s)) r → FeedRefuses s inputs room r room′
-feed-refuses s inputs room r room′ fed = fed-rule room room′ s inputs r fed
+unfolding laid firstNumber
+feed-refuses s inputs room r room′ fed =
+    record {
+      state = fed .next ∙ feed-rules (length room) inputs (view s) .next ∙ ap (λ (n : ℕ). run (take n inputs) (view s) .next) (sym (fed .used));
+      refuses = refused;
+      sends = λ some. ap numberInPush (fed .answer) ∙ fed-sends (length room) inputs (view s) (omega (arith, fed .many));
+    }
+  where
+    out : FedOut
+    out = fedOf (length room) inputs (view s)
+
+    refused : r .pushed .count ≡ 0
+        → Refuses (nextTests room (view (r .pushed .next)) (drop (r .used) inputs)) (numberInPush (r .pushed .answer)) ((r .pushed .heads ≡ headsOf 3 []) × (room′ ≡ room))
+    refused zero-count =
+        let no-frame : out .sent ≡ [] = none-sent (out .sent) (sym (fed .many) ∙ zero-count) in
+        record {
+          exactly =
+              ap numberInPush (fed .answer)
+              ∙ fed-number (length room) inputs (view s) (nextTests room (out .next)) refl (λ x xs. push-number room x (out .next)) no-frame
+              ∙ ap₂ (λ (m : State) (n : ℕ). firstNumber (nextTests room m (drop n inputs))) (sym (fed .next)) (sym (fed .used));
+          as-before = λ h. (fed .figures ∙ ap (headsOf 3) no-frame, fed .stored ∙ ap (laid room 0) no-frame);
+        }

@@ -3,8 +3,8 @@
 -- In this order: document 01's table 'Numbered refusals', each of its lines once, as a test; what it is to refuse by tests in an order; the number
 -- of each kind of answer; what each call refuses; and `Demand1`, a field a call: what its contract promises refuses so.
 -- A field speaks of exactly the definitions that the call's contract cites: coding::descramble ensures that it answers `sizeAnswer` and leaves
--- `afterDescramble`, Synchroniser::push ensures `PushedBy`. And the crates demand_coding, demand_speech and demand_stream make each call and promise the
--- same of what it gave and left.
+-- `afterDescramble`, Synchroniser::push ensures `PushedBy`. And the crates demand_coding, demand_speech, demand_stream and demand_recording make each call
+-- and promise the same of what it gave and left.
 -- Where a name is from, the lines below say: Rattle.coding_rules.specs.Calls is the file crates/coding_rules/specs/Calls.antt, and what lies under `declared`
 -- is a type of the crate's src/.
 -- Inputs are not restricted: no call has a `requires` but its state's invariant, which every call that hands out a state ensures. What is lent
@@ -37,6 +37,10 @@ use Rattle.merger_rules.specs.declared.Position.{Position}
 use Rattle.merger_rules.specs.declared.Keeping.{Keeping}
 use Rattle.merger_rules.specs.declared.Keeping.the-variants as keeping
 use Rattle.protected_rules.specs.Table.{Admitted, admits}
+use Rattle.recorder_rules.specs.Makings.{Making, Sequential}
+use Rattle.recorder_rules.specs.Steps.{dibitsOf, SteppedBy}
+use Rattle.recorder_rules.specs.declared.Recorder.{Recorder}
+use Rattle.recorder_rules.specs.declared.Stepped.{Stepped}
 use Rattle.sync.specs.Answers.{PushedBy}
 use Rattle.sync.specs.Feeds.{FedBy}
 use Rattle.sync_steps.specs.Feeds.{fedOf}
@@ -238,6 +242,32 @@ pub record FeedRefuses (s : Synchroniser) (inputs : List Input) (room : List ℕ
   -- where frames were sent, nothing is refused
   pub sends : 0 < r .pushed .count → numberInPush (r .pushed .answer) ≡ 0
 
+-- lent memory below what the frames of a push may need: the synchroniser is then lent no room, which is test 2
+abbrev pub smallMemory : ℕ → List ℕ → Test
+smallMemory need out = test 2 (ltb (length out) need)
+
+-- a step of a recording, the tests of the next of these dibits, where there is one: 1, 2, 3
+abbrev pub stepTests : ℕ → List ℕ → State → List Input → List Test
+stepTests need out state [] = []
+stepTests need out state (x ∷ xs) = badDibit (x .dibit) ∷ smallMemory need out ∷ streamEnd state ∷ []
+
+-- a step that handed out nothing: no byte, no accepted frame, the frame before is still the one before, and the lent memory is as it was
+pub record Unstepped (r : Recorder) (out : List ℕ) (a : Stepped) (out′ : List ℕ) : Type 0 where
+  pub nothing : (a .size ≡ 0) × (a .accepted ≡ 0)
+  pub earlier : a .next .earlier ≡ r .earlier
+  pub lent : out′ ≡ out
+
+-- A step is pushes of packed dibits one after the other, up to one that sends frames or is refused, or to the end; `used` of them were made. What it
+-- refuses is one push, and the state is the one before that push.
+pub record StepRefuses (p : Making) (r : Recorder) (inputs : List Input) (out : List ℕ) (a : Stepped) (out′ : List ℕ) : Type 0 where
+  -- the state is that of the pushes made
+  pub state : view (a .next .sync) ≡ run (take (a .used) inputs) (view (r .sync)) .next
+  -- where they sent no frame, the number is that of the next dibit's tests in this state, and refused, nothing is handed out
+  pub refuses : run (take (a .used) inputs) (view (r .sync)) .sent ≡ []
+      → Refuses (stepTests (p .need) out (view (a .next .sync)) (drop (a .used) inputs)) (numberInPush (a .answer)) (Unstepped r out a out′)
+  -- where they sent frames, nothing is refused
+  pub sends : 0 < length (run (take (a .used) inputs) (view (r .sync)) .sent) → numberInPush (a .answer) ≡ 0
+
 -- the merger: 7, 8, late, 9. Late is an answer and no refusal, and nothing behind it is tested
 abbrev pub late : Clock → ℕ → Test
 late last offset = test 0 (isLate last offset)
@@ -302,6 +332,9 @@ pub record Demand1 : Type 0 where
       → FedBy room room′ (fedOf (length room) (softly dibits reliable) (view s)) r → FeedRefuses s (softly dibits reliable) room r room′
   pub feed-packed : (s : Synchroniser) (bytes : List ℕ) (start : ℕ) (room : List ℕ) (r : Fed) (room′ : List ℕ)
       → FedBy room room′ (fedOf (length room) (hardly (drop start (unpacked bytes))) (view s)) r → FeedRefuses s (hardly (drop start (unpacked bytes))) room r room′
+  -- recorder_lines::step (the lines of a listing or of the slips) and recorder::step (records or speech), whatever they make of the frames
+  pub step : (p : Making) → Sequential p → (r : Recorder) (bytes : List ℕ) (from : ℕ) (out : List ℕ) (a : Stepped) (out′ : List ℕ)
+      → SteppedBy p out out′ (dibitsOf bytes from) r a → StepRefuses p r (dibitsOf bytes from) out a out′
   -- merger
   pub merger-push : (m : Merger) (stream : ℕ) (figures : Head) (number : ℕ) (check : Bool) (r : AfterPush)
       → PushGave m (pushOf stream (heldOf figures number check) (viewOf m)) r → MergerRefuses m stream (figures .offset) r
@@ -315,5 +348,6 @@ pub record Demand1 : Type 0 where
   pub repairs : (places tail : List ℕ) → Repairs places tail (repairOf places tail)
 
 -- All other calls refuse nothing: coding::crc16 (bytes of any number) and markers; field::product, quotient (0 by zero) and power;
--- Synchroniser::new and its figures; Merger::new, clear, release (nothing ready is an answer) and merger::chosen (envelopes of any length);
--- journal::gap_to; bits::number_of. A function that is lent tables or has another `requires` serves the crates above it.
+-- Synchroniser::new and its figures; recorder_steps::start and recorder_lines::last_line; Merger::new, clear, release (nothing ready is an answer) and
+-- merger::chosen (envelopes of any length); journal::gap_to; bits::number_of. A function that is lent tables or has another `requires` serves the
+-- crates above it.

@@ -5,6 +5,7 @@ ghost use Rattle.demands.specs.Demand2.{Demand2};
 ghost use Rattle.demands.specs.Demand3.{Demand3, Statements};
 ghost use Rattle.demands.specs.Examples.{Holds, starred};
 ghost use Rattle.demands.specs.NoBetter.{NoBetterPath};
+ghost use Rattle.demands.specs.Recording.{Recording};
 
 // Demand 1: bad input is refused with its number from document 01, the state is the one before the call, lent memory keeps its bytes; a field a call.
 pub fn demand_one()
@@ -48,4 +49,15 @@ pub fn no_better_path()
 {
     voice_path_rules::nearest_path();
     voice_rules::nearest_tried();
+}
+
+// What leaves the case: any history of a recorder's steps, the input cut anywhere, hands out what is made of exactly the frames that the synchroniser sends.
+pub fn recording()
+    ensures { λ _. ⌜ Recording ⌝ }
+{
+    recorder_rules::makings_sequential();
+    recorder_rules::steps_make();
+    recorder_rules::cut_anywhere();
+    recorder_rules::whole_input();
+    recorder_rules::journal_rule();
 }

@@ -11,6 +11,7 @@ pub use journal_rules::Entry;
 pub use journal_rules::Figures;
 pub use journal_rules::Outcome;
 pub use journal_rules::Reading;
+pub use journal_rules::Tried;
 pub use journal_writing::write;
 
 // Gives the gap between a frame at `next` and the one before it at `earlier`: none where these lie at most 384 bits apart.

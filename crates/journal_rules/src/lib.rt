@@ -10,6 +10,12 @@ pub enum Outcome {
     Refused,
 }
 
+// What the decoder said of a frame: the outcome, and the corrected bits, zero unless accepted.
+pub struct Tried {
+    pub outcome: Outcome,
+    pub corrected: u8,
+}
+
 // What a journal says of a frame beside its offset and its envelope.
 pub struct Figures {
     pub matched: bool,

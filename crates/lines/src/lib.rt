@@ -1,7 +1,7 @@
 // Makes the lines that the programs print.
 // listing.rt makes the lines of a listing, slipping.rt those of the slips, speaking.rt that of a decoded frame, telling.rt what goes to standard error.
-// What each line says is defined in crate `lines_rules`; those of a journal's records are made in `lines_records`. Crate `texts` puts text into a line and
-// prints it.
+// What each line says is defined in crate `lines_rules`; those of a journal's records are made in `lines_records`. Crate `texts` puts text into a line,
+// `texts_printing` prints it.
 mod listing;
 mod slipping;
 mod speaking;
@@ -20,5 +20,3 @@ pub use speaking::speech_line;
 pub use telling::left_out_line;
 pub use telling::refusal_line;
 pub use texts::Line;
-pub use texts::print;
-pub use texts::print_error;

@@ -5,7 +5,7 @@ ghost use mathlib.Core.List.{List, _++_};
 ghost use Prim.Native.Nat.{ℕ, _+_, _≤_};
 ghost use Rattle.texts_rules.specs.Text.{lineOf};
 ghost use Rattle.journal_rules.specs.Gaps.{gapTo};
-ghost use Rattle.lines_rules.specs.Entries.{outcomeWords, figuresText, shownBody, shownAs, shownRecord, betweenLine};
+ghost use Rattle.lines_rules.specs.Entries.{listedBody, betweenText, outcomeWords, figuresText, shownBody, shownAs, shownRecord};
 use bits::Refusal;
 use bits::number_of;
 use bits::wide;
@@ -16,6 +16,7 @@ use journal::Entry;
 use journal::Figures;
 use journal::Outcome;
 use journal::Reading;
+use lines::frame_line;
 use lines::frame_words;
 use lines::gap_line;
 use lines::refused_line;
@@ -107,22 +108,26 @@ pub fn show_record(record: &[u8], number: u64) -> Shown
     }
 }
 
-// Makes the line of an entry, without saying what it is.
-fn entry_line(entry: Entry) -> Line
-    ensures { λ r. ⌜ r ≡ shownBody (entry .offset) (entry .body) .line ⌝ }
+// Makes the line of an entry at an offset as `listing` prints it: a frame's ends behind its errors.
+fn listed_body(offset: u64, body: Body) -> Line
+    ensures { λ r. ⌜ r ≡ lineOf (listedBody offset body) ⌝ }
 {
-    let body = entry.body;
-    let shown = shown_body(entry.offset, body);
-    shown.line
+    match body {
+        Body::Frame(f) => frame_line(offset, f.matched, wide(f.errors) as u64),
+        Body::Gap(n) => gap_line(offset, n),
+    }
 }
 
 // Makes the line of the gap before a frame at the offset `next`; where there is none an empty line, which prints nothing.
 pub fn gap_before(earlier: Earlier, next: u64) -> Line
-    ensures { λ r. ⌜ r ≡ betweenLine (gapTo earlier next) ⌝ }
+    ensures { λ r. ⌜ r ≡ lineOf (betweenText (gapTo earlier next)) ⌝ }
 {
     let between = journal::gap_to(earlier, next);
     match between {
         Between::NoGap => empty(),
-        Between::Gap(entry) => entry_line(entry),
+        Between::Gap(entry) => {
+            let body = entry.body;
+            listed_body(entry.offset, body)
+        }
     }
 }

@@ -1,4 +1,4 @@
--- What `show` prints of a journal's record.
+-- What `listing` prints of an entry, and `show` of a journal's record.
 -- Assumes nothing.
 use mathlib.Core.List.{List, [], _∷_, _++_}
 use Prim.Native.Nat.{ℕ}
@@ -10,14 +10,27 @@ use Rattle.journal_rules.specs.declared.Body.{Body}
 use Rattle.journal_rules.specs.declared.Figures.{Figures}
 use Rattle.journal_rules.specs.declared.Reading.{Reading}
 use Rattle.journal_rules.specs.declared.Reading.the-variants.{Holds, Refused}
+use Rattle.journal_rules.specs.Gaps.{Piece}
 use Rattle.journal_rules.specs.Reading.{readOf}
 use Rattle.journal_rules.specs.declared.Between.{Between}
 use Rattle.journal_rules.specs.declared.Between.the-variants.{NoGap, Gap as OneGap}
-use Rattle.texts_rules.specs.declared.Line.{Line}
 use Rattle.texts_rules.specs.Text.{lineOf}
 use Rattle.lines_rules.specs.declared.Shown.{Shown}
 use Rattle.lines_rules.specs.declared.What.the-variants.{AFrame, AGap, NoRecord}
-use Rattle.lines_rules.specs.Text.{spaced, lineFeed, frameWords, gapText, refusedText}
+use Rattle.lines_rules.specs.Text.{spaced, lineFeed, frameWords, frameText, gapText, refusedText}
+
+-- what `listing` prints of an entry at an offset: "frame lines being offset, matched, errors"; "A gap prints `gap`, offset, length"
+abbrev pub listedBody : ℕ → Body → List ℕ
+listedBody offset (Frame f) = frameText offset (f .matched) (f .errors)
+listedBody offset (Gap n) = gapText offset n
+
+abbrev pub listedText : Piece → List ℕ
+listedText p = listedBody (p .entry .offset) (p .entry .body)
+
+-- what it prints of the gap before a frame; nothing where there is none
+abbrev pub betweenText : Between → List ℕ
+betweenText NoGap = []
+betweenText (OneGap e) = listedBody (e .offset) (e .body)
 
 -- ` untried`, ` accepted` with the corrected bits, or ` refused`
 abbrev pub outcomeWords : Outcome → ℕ → List ℕ
@@ -42,8 +55,3 @@ shownAs (Refused x) number = record { what = NoRecord; line = lineOf (refusedTex
 -- "a journal record, read or to be written, breaks a rule below, its length included".
 abbrev pub shownRecord : List ℕ → ℕ → Shown
 shownRecord bytes number = shownAs (readOf 64 bytes) number
-
--- the line of the gap before a frame; an empty one where there is none
-abbrev pub betweenLine : Between → Line
-betweenLine NoGap = lineOf []
-betweenLine (OneGap e) = shownBody (e .offset) (e .body) .line

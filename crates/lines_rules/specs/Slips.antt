@@ -1,7 +1,8 @@
 -- What `slips` prints of a frame and of a whole input.
 -- Assumes nothing.
 use mathlib.Core.Bool.{Bool, false, not, cond, _||_}
-use mathlib.Core.List.{[]}
+use mathlib.Core.List.{List, []}
+use Prim.Native.Nat.{ℕ}
 use mathlib.Core.Path.{_≡_}
 use lib.Dec.{eqb}
 use lib.IntN.{ℤ, natAbs}
@@ -21,9 +22,12 @@ isMove z = not (eqb (natAbs z) 0)
 abbrev pub hasMove : Moves → Bool
 hasMove m = isMove (m .front) || isMove (m .second) || isMove (m .third)
 
--- "`slip OFFSET FRONT SECOND THIRD` for each frame with a move that is not zero"; an empty line, which prints nothing, for any other
+-- "`slip OFFSET FRONT SECOND THIRD` for each frame with a move that is not zero"; nothing for any other
+abbrev pub slipLineText : Head → List ℕ
+slipLineText h = cond (hasMove (h .moves)) (slipText (h .offset) (h .moves .front) (h .moves .second) (h .moves .third)) []
+
 abbrev pub slipLine : Head → Line
-slipLine h = cond (hasMove (h .moves)) (lineOf (slipText (h .offset) (h .moves .front) (h .moves .second) (h .moves .third))) (lineOf [])
+slipLine h = lineOf (slipLineText h)
 
 -- "last line `end FRAMES SLIPS NETSLIP`"
 abbrev pub slipsEnd : State → Line

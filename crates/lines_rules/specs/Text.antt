@@ -55,12 +55,15 @@ refusedText first second = (114 ∷ 101 ∷ 102 ∷ 117 ∷ 115 ∷ 101 ∷ 100 
 abbrev pub refusalText : ℕ → List ℕ
 refusalText number = (114 ∷ 101 ∷ 102 ∷ 117 ∷ 115 ∷ 101 ∷ 100 ∷ []) ++ spaced number ++ lineFeed
 
--- `late`, `double` and `passed over`, each with how many frames of two merged recordings it kept out of the journal
-abbrev pub leftOutText : ℕ → ℕ → ℕ → List ℕ
-leftOutText late double passed =
+-- `late`, `double`, `passed over` and `refused`, each with how many frames of two merged recordings it kept out of the journal
+abbrev pub leftOutWords : ℕ → ℕ → ℕ → List ℕ
+leftOutWords late double passed =
     (108 ∷ 97 ∷ 116 ∷ 101 ∷ []) ++ spaced late
     ++ (32 ∷ 100 ∷ 111 ∷ 117 ∷ 98 ∷ 108 ∷ 101 ∷ []) ++ spaced double
-    ++ (32 ∷ 112 ∷ 97 ∷ 115 ∷ 115 ∷ 101 ∷ 100 ∷ 32 ∷ 111 ∷ 118 ∷ 101 ∷ 114 ∷ []) ++ spaced passed ++ lineFeed
+    ++ (32 ∷ 112 ∷ 97 ∷ 115 ∷ 115 ∷ 101 ∷ 100 ∷ 32 ∷ 111 ∷ 118 ∷ 101 ∷ 114 ∷ []) ++ spaced passed
+
+abbrev pub leftOutText : ℕ → ℕ → ℕ → ℕ → List ℕ
+leftOutText late double passed refused = leftOutWords late double passed ++ (32 ∷ 114 ∷ 101 ∷ 102 ∷ 117 ∷ 115 ∷ 101 ∷ 100 ∷ []) ++ spaced refused ++ lineFeed
 
 -- `speech`, the frame's offset, its corrected bits, and its payload in 40 digits
 abbrev pub speechText : ℕ → ℕ → List ℕ → List ℕ

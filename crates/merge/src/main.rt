@@ -1,24 +1,23 @@
 // merge TABLE PRIMARY ALTERNATE
 // Merges two packed recordings of the same time, and writes the journal of the merged frames to standard output.
-// Frames that are not in the journal are counted on standard error, where there are any: `late N double N passed over N`.
+// Frames that are not in the journal are counted on standard error, where there are any: `late N double N passed over N refused N`.
 
-// Opens the file that argument i names and gives its descriptor; where that fails, it says so on standard error and gives a negative number.
+// Opens the file that argument i names and gives its descriptor; where that fails, it says so with the system's reason on standard error and gives a negative
+// number.
 fn open_argument(i: usize) -> i32 {
     let mut name = io::buffer();
     let n = os::arg(i, &mut name);
     let fd = os::open_read(&name[..n]);
     if fd < 0 {
-        io::write_all(2, b"cannot read ");
-        io::write_all(2, &name[..n]);
-        io::write_all(2, b"\n");
+        channels::unreadable(&name[..n]);
     }
     fd
 }
 
 // Reads the table, opens both recordings and merges them; where one of the three is missing, nothing is merged.
 fn main() {
-    if os::arg_count() < 4 {
-        io::write_all(2, b"usage: merge TABLE PRIMARY ALTERNATE\n");
+    if os::arg_count() != 4 {
+        channels::usage(b"merge TABLE PRIMARY ALTERNATE");
         return;
     }
     let mut table = [0u8; 188];
@@ -33,5 +32,5 @@ fn main() {
     if alternate < 0 {
         return;
     }
-    merging::merge(&table, primary, alternate);
+    task_merge::merge(&table, primary, alternate);
 }

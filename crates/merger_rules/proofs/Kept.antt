@@ -29,11 +29,11 @@ use Rattle.merger_rules.proofs.TakenOut.{release-all}
 
 -- `Taken` is what is known of each frame that was taken in
 module _ (Taken : ℕ → Held → Type 0) where
-  abbrev InPlace : ℕ → Place → Type 0
+  abbrev pub InPlace : ℕ → Place → Type 0
   InPlace s Empty = Unit {0}
   InPlace s (Holds h) = Taken s h
 
-  abbrev Both : Position → Type 0
+  abbrev pub Both : Position → Type 0
   Both p = InPlace 0 (p .primary) × InPlace 1 (p .alternate)
 
   both-filled : (s : ℕ) (h : Held) (p : Position) → s ≤ 1 → Taken s h → Both p → Both (filled s h p)
@@ -42,7 +42,7 @@ module _ (Taken : ℕ → Held → Type 0) where
   both-filled (suc (suc s)) h p k t q = absurd (omega arith)
 
   -- a push: only what it keeps comes in
-  push-taken : (s : ℕ) (h : Held) (v : View) → (pushOf s h v .answer ≡ Kept → Taken s h) → All Both (v .pending) → All Both (pushOf s h v .next .pending)
+  pub push-taken : (s : ℕ) (h : Held) (v : View) → (pushOf s h v .answer ≡ Kept → Taken s h) → All Both (v .pending) → All Both (pushOf s h v .next .pending)
   push-taken s h v k a =
       push-cases Q s h v (λ _ _. a) (λ _ _. a) (λ _ _. a)
       (λ p i. join-cases Q s h v _ (λ _ _. a)

@@ -6,9 +6,9 @@ use mathlib.Core.List.{List, [], _∷_}
 use Prim.Native.Nat.{ℕ, zero, suc, _<_}
 use native.Mathlib.Omega.{arith}
 use lib.ListN.{getD, take, drop}
-use Rattle.merger_rules.specs.Merging.{View, noPosition, passed, isReady, choiceOf, freedOf, noneFreed, ReleaseStep, releaseStep, view, settle, releaseFrom, releaseOf}
+use Rattle.merger_rules.specs.Merging.{noPosition, passed, isReady, choiceOf, freedOf, noneFreed, ReleaseStep, releaseStep, view, settle, releaseFrom}
 use Rattle.merger_rules.specs.declared.Clock.{Clock}
-use Rattle.merger_rules.specs.declared.Clock.the-variants.{Absent, At}
+use Rattle.merger_rules.specs.declared.Clock.the-variants.{At}
 use Rattle.merger_rules.specs.declared.Place.{Place}
 use Rattle.merger_rules.specs.declared.Place.the-variants.{Empty, Holds}
 use Rattle.merger_rules.specs.declared.Position.{Position}

@@ -3,15 +3,15 @@
 use mathlib.Core.Path.{_≡_, refl, sym, ap, subst, _∙_}
 use mathlib.Core.Bool.{Bool, true, false}
 use mathlib.Core.List.{List, [], _∷_, _++_}
-use Prim.Native.Nat.{ℕ, _+_, _^_, _≤_, _<_}
+use Prim.Native.Nat.{ℕ, _+_, _≤_, _<_}
 use native.Mathlib.Omega.{arith}
 use lib.Dec.{eqb}
-use lib.ListN.{length, getD, set, length-set}
+use lib.ListN.{length, getD, length-set}
 use Rattle.bits.proofs.Conds.{cond-both}
 use Rattle.merger_rules.specs.Counts.{inFree, pendingOf, releasedOf, one, keptBy, keptOf, inFreed, freedIn}
 use Rattle.merger_rules.specs.Merging.{View, pushOf, isReady, choiceOf, freedOf, snapped, isAfter, ReleaseStep, settle, releaseFrom, releaseOf}
 use Rattle.merger.specs.States.{viewOf, ValidMerger, PushGave, ReleaseGave}
-use Rattle.merger_rules.specs.Scripts.{push, release, given, releases}
+use Rattle.merger_rules.specs.Scripts.{push, release, given}
 use Rattle.merger.specs.declared.AfterPush.{AfterPush}
 use Rattle.merger.specs.declared.AfterRelease.{AfterRelease}
 use Rattle.merger_rules.specs.declared.Choice.{Choice}
@@ -25,7 +25,6 @@ use Rattle.merger.specs.declared.Merger.{Merger}
 use Rattle.merger_rules.specs.declared.Position.{Position}
 use Rattle.merger_rules.specs.declared.Keeping.{Keeping}
 use Rattle.merger_rules.specs.declared.Keeping.the-variants.{Kept, Double, Late, Refused}
-use Rattle.bits.specs.declared.Refusal.{Refusal}
 use Rattle.merger_rules.specs.declared.Release.{Release}
 use Rattle.merger_rules.specs.declared.Released.{Released}
 use Rattle.merger_rules.specs.declared.Released.the-variants.{Frame, PassedOver, NothingReady}
@@ -35,26 +34,21 @@ use Rattle.merger.proofs.Gave.{len}
 use Rattle.merging_rules.specs.declared.Answered.{Answered}
 use Rattle.merging_rules.specs.declared.Gone.{Gone}
 use Rattle.merging_rules.specs.declared.Work.{Work}
-use Rattle.journal_rules.specs.declared.Earlier.{Earlier}
 use Rattle.merging_shelf.specs.declared.Shelf.{Shelf}
 use Rattle.merging_shelf.specs.Slots.{shelfSlots, bitAt, used, IsSlot, cleared, countFree, countFreed}
-use Rattle.merging_rules.specs.Accounts.{toldOf, mostTold, goneOf, slotsAfter, counted, tells, takesIn, goneBy, TakesOut, waiting, IsFrameSlot, Fewer, Accounted, TookOut}
+use Rattle.merging_rules.specs.Accounts.{toldOf, mostTold, goneOf, slotsAfter, counted, takesIn, goneBy, TakesOut, waiting, IsFrameSlot, Fewer, Accounted, TookOut}
 use Rattle.merging_rules.specs.Statements.{pushCounted, releaseCounted, slotLeft, allCounted}
 use Rattle.merging_shelf.proofs.Shelving.{one-same, slot-filled, one-more-used, none-used, room-left, small-freed, slots-freed, fewer-used, as-long, number-small}
 
 -- ---- a push
 
-push-gives : (x s : ℕ) (h : Held) (v : View) → pendingOf x (pushOf s h v .next .pending) ≡ keptBy x h (pushOf s h v .answer) + pendingOf x (v .pending)
+pub push-gives : (x s : ℕ) (h : Held) (v : View) → pendingOf x (pushOf s h v .next .pending) ≡ keptBy x h (pushOf s h v .answer) + pendingOf x (v .pending)
 unfolding keptOf freedIn
 push-gives x s h v = let all = balanced x (push s h ∷ []) v in omega arith
 
-pub pushed-waits : (m : Merger) (s : ℕ) (h : Held) (r : AfterPush) → PushGave m (pushOf s h (viewOf m)) r → (x : ℕ) → waiting (r .merger) x ≡ keptBy x h (r .answer) + waiting m x
-pushed-waits m s h r g x =
-    ap (λ (v : View). pendingOf x (v .pending)) (g .leaves) ∙ push-gives x s h (viewOf m) ∙ ap (λ (a : Keeping). keptBy x h a + waiting m x) (sym (g .answers))
-
 -- ---- a release
 
-release-gives : (x : ℕ) (s₀ s₁ : Clock) (flush : Bool) (v : View)
+pub release-gives : (x : ℕ) (s₀ s₁ : Clock) (flush : Bool) (v : View)
     → pendingOf x (v .pending) ≡ inFreed x (releaseOf s₀ s₁ flush v .freed) + pendingOf x (releaseOf s₀ s₁ flush v .next .pending)
 unfolding keptOf freedIn
 release-gives x s₀ s₁ flush v = let all = balanced x (release s₀ s₁ flush ∷ []) v in omega arith
@@ -65,16 +59,14 @@ takenBy (Frame r) = 1
 takenBy PassedOver = 1
 takenBy NothingReady = 0
 
-Fell : List Position → ReleaseStep → Type 0
+abbrev pub Fell : List Position → ReleaseStep → Type 0
 Fell l y = takenBy (y .answer) + length (y .next .pending) ≡ length l
 
 settle-fell : (c : Choice) (f : Freed) (p : Position) (ps : List Position) (last : Clock) → Fell (p ∷ ps) (settle c f ps last)
-unfolding Fell
 settle-fell Neither f p ps last = omega arith
 settle-fell (Chosen h b) f p ps last = cond-both (Fell (p ∷ ps)) (isAfter last (snapped last (h .figures .offset))) _ _ (omega arith) (omega arith)
 
-release-fell : (s₀ s₁ : Clock) (flush : Bool) (l : List Position) (last : Clock) → Fell l (releaseFrom s₀ s₁ flush l last)
-unfolding Fell
+pub release-fell : (s₀ s₁ : Clock) (flush : Bool) (l : List Position) (last : Clock) → Fell l (releaseFrom s₀ s₁ flush l last)
 release-fell s₀ s₁ flush [] last = omega arith
 release-fell s₀ s₁ flush (p ∷ ps) last = cond-both (Fell (p ∷ ps)) (isReady s₀ s₁ flush p) _ _ (settle-fell (choiceOf p) (freedOf p) p ps last) (omega arith)
 
@@ -100,18 +92,10 @@ frame-frees s₀ s₁ flush v r e =
 -- ---- the counts
 
 pub push-counted : pushCounted
-push-counted again Kept a = (omega arith, omega arith)
-push-counted again Double a = (omega arith, omega arith)
-push-counted again Late a = (omega arith, omega arith)
-push-counted true (Refused r) a = (omega arith, omega arith)
-push-counted false (Refused r) a = (omega arith, omega arith)
-
--- a frame that is not handed in again is told of, whatever the answer
-pub told-once : (k : Keeping) → tells false k ≡ 1
-told-once Kept = refl
-told-once Double = refl
-told-once Late = refl
-told-once (Refused r) = refl
+push-counted Kept a = (omega arith, omega arith)
+push-counted Double a = (omega arith, omega arith)
+push-counted Late a = (omega arith, omega arith)
+push-counted (Refused r) a = (omega arith, omega arith)
 
 pub release-counted : releaseCounted
 release-counted (Frame r) out g h = omega arith
@@ -121,6 +105,14 @@ release-counted NothingReady out g h = omega (arith, h)
 free-counts : (x : ℕ) (f : Free) → inFree x f ≤ countFree f
 free-counts x Nothing = omega arith
 free-counts x (Number n) = cond-both (λ (k : ℕ). k ≤ 1) (eqb n x) 1 0 (omega arith) (omega arith)
+
+-- the frame that is handed on is one of those taken out, and where nothing is ready none is
+pub takes-out : (s₀ s₁ : Clock) (flush : Bool) (v : View) (a : Released) → releaseOf s₀ s₁ flush v .answer ≡ a → TakesOut a (countFreed (releaseOf s₀ s₁ flush v .freed))
+takes-out s₀ s₁ flush v (Frame f) e =
+    let y = releaseOf s₀ s₁ flush v .freed in
+    omega (arith, frame-frees s₀ s₁ flush v f e, free-counts (f .number) (y .primary), free-counts (f .number) (y .alternate))
+takes-out s₀ s₁ flush v PassedOver e = tt
+takes-out s₀ s₁ flush v NothingReady e = ap (λ (y : ReleaseStep). countFreed (y .freed)) (not-ready s₀ s₁ flush v e)
 
 module _ (m : Merger) (s₀ s₁ : Clock) (flush : Bool) (r : AfterRelease) (g : ReleaseGave (releaseOf s₀ s₁ flush (viewOf m)) r) where
   pub took-out : TookOut m (r .merger) (r .freed)
@@ -135,14 +127,10 @@ module _ (m : Merger) (s₀ s₁ : Clock) (flush : Bool) (r : AfterRelease) (g :
   frees-one f e =
       subst (λ (y : Freed). 1 ≤ inFreed (f .number) y) (sym (g .frees)) (frame-frees s₀ s₁ flush (viewOf m) f (sym (g .answers) ∙ e))
 
-  -- the frame that is handed on is one of those taken out, and where nothing is ready none is
   pub takes : (a : Released) → r .answer ≡ a → TakesOut a (countFreed (r .freed))
-  takes (Frame f) e = omega (arith, frees-one f e, free-counts (f .number) (r .freed .primary), free-counts (f .number) (r .freed .alternate))
-  takes PassedOver e = tt
-  takes NothingReady e = ap countFreed (g .frees ∙ ap (λ (y : ReleaseStep). y .freed) (not-ready s₀ s₁ flush (viewOf m) (sym (g .answers) ∙ e)))
+  takes a e = subst (λ (y : Freed). TakesOut a (countFreed y)) (sym (g .frees)) (takes-out s₀ s₁ flush (viewOf m) a (sym (g .answers) ∙ e))
 
   pub fell : ValidMerger m → takenBy (r .answer) + r .merger .n ≡ m .n
-  unfolding Fell
   fell valid =
       let before : length (viewOf m .pending) ≡ m .n = len m valid in
       let after : length (viewOf (r .merger) .pending) ≡ r .merger .n = len (r .merger) (g .valid) in
@@ -206,47 +194,48 @@ all-counted w a e = omega (arith, a .balance, none-used (w .shelf .taken) (viewO
 -- ---- the work after a push
 
 -- the shelf's slots after the merger's answer
-record Laid (before : List Bool) (m : Merger) (k : Keeping) (taken : List Bool) : Type 0 where
-  slots : length taken ≡ shelfSlots
-  shelved : (x : ℕ) → bitAt taken x ≡ waiting m x
-  more : used taken ≡ used before + takesIn k
+pub record Laid (before : List Bool) (l : List Position) (k : Keeping) (taken : List Bool) : Type 0 where
+  pub slots : length taken ≡ shelfSlots
+  pub shelved : (x : ℕ) → bitAt taken x ≡ pendingOf x l
+  pub more : used taken ≡ used before + takesIn k
 
-module _ (w : Work) (a : Accounted w) (s : ℕ) (h : Held) (r : AfterPush) (g : PushGave (w .merger) (pushOf s h (viewOf (w .merger))) r) where
-  waits : (x : ℕ) (p : Keeping) → r .answer ≡ p → waiting (r .merger) x ≡ keptBy x h p + waiting (w .merger) x
-  waits x p e = pushed-waits (w .merger) s h r g x ∙ ap (λ (q : Keeping). keptBy x h q + waiting (w .merger) x) e
+module _ (taken : List Bool) (slots : length taken ≡ shelfSlots) (v : View) (shelved : (x : ℕ) → bitAt taken x ≡ pendingOf x (v .pending)) (s : ℕ) (h : Held) where
+  waits : (x : ℕ) (k : Keeping) → pushOf s h v .answer ≡ k → pendingOf x (pushOf s h v .next .pending) ≡ keptBy x h k + pendingOf x (v .pending)
+  waits x k e = push-gives x s h v ∙ ap (λ (q : Keeping). keptBy x h q + pendingOf x (v .pending)) e
 
   -- no slot more is taken
-  still : (k : Keeping) → r .answer ≡ k → ((x : ℕ) → keptBy x h k ≡ 0) → takesIn k ≡ 0 → Laid (w .shelf .taken) (r .merger) k (w .shelf .taken)
-  still k e z n = record { slots = a .slots; shelved = λ x. omega (arith, waits x k e, a .shelved x, z x); more = omega (arith, n) }
+  still : (k : Keeping) → pushOf s h v .answer ≡ k → ((x : ℕ) → keptBy x h k ≡ 0) → takesIn k ≡ 0 → Laid taken (pushOf s h v .next .pending) k taken
+  still k e z n = record { slots = slots; shelved = λ x. omega (arith, waits x k e, shelved x, z x); more = omega (arith, n) }
 
-  laid : h .number < shelfSlots → getD (w .shelf .taken) (h .number) false ≡ false → (k : Keeping) → r .answer ≡ k → Laid (w .shelf .taken) (r .merger) k (slotsAfter k (h .number) (w .shelf .taken))
+  pub laid : h .number < shelfSlots → getD taken (h .number) false ≡ false → (k : Keeping) → pushOf s h v .answer ≡ k → Laid taken (pushOf s h v .next .pending) k (slotsAfter k (h .number) taken)
   laid small free Kept e =
-      let within : h .number < length (w .shelf .taken) = omega (arith, a .slots) in
+      let within : h .number < length taken = omega arith in
       record {
-        slots = length-set (w .shelf .taken) (h .number) true ∙ a .slots;
-        shelved = λ x. slot-filled (w .shelf .taken) (h .number) within free x ∙ ap (λ (n : ℕ). one x (h .number) + n) (a .shelved x) ∙ sym (waits x Kept e);
-        more = one-more-used (w .shelf .taken) (h .number) within free small;
+        slots = length-set taken (h .number) true ∙ slots;
+        shelved = λ x. slot-filled taken (h .number) within free x ∙ ap (λ (n : ℕ). one x (h .number) + n) (shelved x) ∙ sym (waits x Kept e);
+        more = one-more-used taken (h .number) within free small;
       }
   laid small free Double e = still Double e (λ x. refl) refl
   laid small free Late e = still Late e (λ x. refl) refl
   laid small free (Refused f) e = still (Refused f) e (λ x. refl) refl
 
-  pub push-accounts : h .number < shelfSlots → getD (w .shelf .taken) (h .number) false ≡ false → (again : Bool) (shelf : Shelf) (answered : Answered) → shelf .taken ≡ slotsAfter (r .answer) (h .number) (w .shelf .taken)
-      → answered ≡ counted again (r .answer) (w .answered) → Accounted (record { merger = r .merger; shelf = shelf; earlier = w .earlier; answered = answered; gone = w .gone })
-  push-accounts small free again shelf answered t c =
-      let l = laid small free (r .answer) refl in
+module _ (w : Work) (a : Accounted w) (s : ℕ) (h : Held) (r : AfterPush) (g : PushGave (w .merger) (pushOf s h (viewOf (w .merger))) r) where
+  pub push-accounts : h .number < shelfSlots → getD (w .shelf .taken) (h .number) false ≡ false → (shelf : Shelf) (answered : Answered) → shelf .taken ≡ slotsAfter (r .answer) (h .number) (w .shelf .taken)
+      → answered ≡ counted (r .answer) (w .answered) → Accounted (record { merger = r .merger; shelf = shelf; answered = answered; gone = w .gone })
+  push-accounts small free shelf answered t c =
+      let l = laid (w .shelf .taken) (a .slots) (viewOf (w .merger)) (a .shelved) s h small free (r .answer) (sym (g .answers)) in
       record {
         valid = g .valid;
         slots = ap length t ∙ l .slots;
-        shelved = λ x. ap (λ (u : List Bool). bitAt u x) t ∙ l .shelved x;
-        balance = omega (arith, ap used t, l .more, a .balance, ap (λ (y : Answered). y .kept) c, push-counted again (r .answer) (w .answered) .1);
+        shelved = λ x. ap (λ (u : List Bool). bitAt u x) t ∙ l .shelved x ∙ ap (λ (v : View). pendingOf x (v .pending)) (sym (g .leaves));
+        balance = omega (arith, ap used t, l .more, a .balance, ap (λ (y : Answered). y .kept) c, push-counted (r .answer) (w .answered) .1);
       }
 
 -- ---- the work after a release
 module _ (w : Work) (a : Accounted w) (s₀ s₁ : Clock) (flush : Bool) (r : AfterRelease) (g : ReleaseGave (releaseOf s₀ s₁ flush (viewOf (w .merger))) r) where
-  pub release-accounts : (shelf : Shelf) (earlier : Earlier) (gone : Gone) (out : ℕ) → shelf .taken ≡ cleared (r .freed .alternate) (cleared (r .freed .primary) (w .shelf .taken))
-      → out ≡ countFreed (r .freed) → gone ≡ goneBy (r .answer) out (w .gone) → Accounted (record { merger = r .merger; shelf = shelf; earlier = earlier; answered = w .answered; gone = gone })
-  release-accounts shelf earlier gone out t c e =
+  pub release-accounts : (shelf : Shelf) (gone : Gone) (out : ℕ) → shelf .taken ≡ cleared (r .freed .alternate) (cleared (r .freed .primary) (w .shelf .taken))
+      → out ≡ countFreed (r .freed) → gone ≡ goneBy (r .answer) out (w .gone) → Accounted (record { merger = r .merger; shelf = shelf; answered = w .answered; gone = gone })
+  release-accounts shelf gone out t c e =
       let l = emptied w a (r .merger) (r .freed) (took-out (w .merger) s₀ s₁ flush r g) (shelf .taken) t in
       record {
         valid = g .valid;

@@ -1,12 +1,10 @@
 -- What is counted of the frames, and what holds of the work between calls: what lies on the shelf is what waits in the merger, and every frame is
 -- accounted for. Assumes nothing.
 use mathlib.Core.Path.{_≡_}
-use mathlib.Core.Bool.{Bool, true, false}
+use mathlib.Core.Bool.{Bool, true}
 use Prim.Native.Nat.{ℕ, _+_, _-_, _^_, _≤_, _<_}
 use mathlib.Core.List.{List}
 use lib.ListN.{length, set}
-use Rattle.journal_rules.specs.declared.Earlier.{Earlier}
-use Rattle.journal_rules.specs.declared.Earlier.the-variants as written
 use Rattle.merger_rules.specs.Counts.{pendingOf, inFreed}
 use Rattle.merger_rules.specs.Merging.{releaseOf}
 use Rattle.merger_rules.specs.declared.Clock.{Clock}
@@ -36,21 +34,12 @@ mostTold = 2 ^ 44
 abbrev pub goneOf : Gone → ℕ
 goneOf g = g .released + g .others + g .passed
 
--- The merger's answer to a frame, counted. Where the frame will be handed in once more, a refusal is not counted yet
-abbrev pub counted : Bool → Keeping → Answered → Answered
-counted again Kept a = record { kept = a .kept + 1; late = a .late; double = a .double; refused = a .refused }
-counted again Double a = record { kept = a .kept; late = a .late; double = a .double + 1; refused = a .refused }
-counted again Late a = record { kept = a .kept; late = a .late + 1; double = a .double; refused = a .refused }
-counted true (Refused r) a = a
-counted false (Refused r) a = record { kept = a .kept; late = a .late; double = a .double; refused = a .refused + 1 }
-
--- how many frames that tells of
-abbrev pub tells : Bool → Keeping → ℕ
-tells again Kept = 1
-tells again Double = 1
-tells again Late = 1
-tells true (Refused r) = 0
-tells false (Refused r) = 1
+-- the merger's answer to a frame, counted
+abbrev pub counted : Keeping → Answered → Answered
+counted Kept a = record { kept = a .kept + 1; late = a .late; double = a .double; refused = a .refused }
+counted Double a = record { kept = a .kept; late = a .late; double = a .double + 1; refused = a .refused }
+counted Late a = record { kept = a .kept; late = a .late + 1; double = a .double; refused = a .refused }
+counted (Refused r) a = record { kept = a .kept; late = a .late; double = a .double; refused = a .refused + 1 }
 
 -- how many frames it takes in
 abbrev pub takesIn : Keeping → ℕ
@@ -71,12 +60,6 @@ abbrev pub TakesOut : Released → ℕ → Type 0
 TakesOut (Frame r) out = 1 ≤ out
 TakesOut PassedOver out = Unit {0}
 TakesOut NothingReady out = out ≡ 0
-
--- the frame written last
-abbrev pub lastWritten : Released → Earlier → Earlier
-lastWritten (Frame r) e = written.At (r .figures .offset)
-lastWritten PassedOver e = e
-lastWritten NothingReady e = e
 
 -- the slots after the merger's answer to a frame that was handed in with a slot's number: it is taken where the frame was kept
 abbrev pub slotsAfter : Keeping → ℕ → List Bool → List Bool

@@ -1,2 +1,9 @@
 pub mod Accounts
 pub mod Statements
+pub mod Piles
+pub mod Turns
+pub mod Works
+pub mod Orders
+pub mod Tallies
+pub mod Settling
+pub mod Merged

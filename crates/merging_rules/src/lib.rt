@@ -1,9 +1,10 @@
 // States what two recordings are merged with, what holds of it between calls, and what is counted of the frames. Nothing runs here.
 //
-// Read specs/Accounts.antt for what is counted and what holds, specs/Statements.antt for what follows: each statement is the `ensures` of an empty function,
-// so that it cannot vanish.
+// Read specs/Piles.antt for what a frame that is handed in, and a release, does; specs/Turns.antt for two recordings, dibit by dibit; specs/Merged.antt for what is
+// proved of them (with specs/Orders.antt for what is handed in, specs/Settling.antt for how long it waits, specs/Tallies.antt for what is counted of the answers);
+// specs/Accounts.antt and specs/Statements.antt for what is counted. Each statement is the `ensures` of an empty function, so that it cannot vanish.
+ghost use Rattle.merging_rules.specs.Merged.{mergedRule};
 ghost use Rattle.merging_rules.specs.Statements.{slotLeft, pushCounted, releaseCounted, allCounted};
-use journal_rules::Earlier;
 use merger::Merger;
 use merging_shelf::Shelf;
 
@@ -22,11 +23,10 @@ pub struct Gone {
     pub passed: u64,
 }
 
-// Holds all that a merge carries from call to call: the merger, the waiting frames of both streams, the frame written last, and the two counts.
+// Holds what frames are merged with: the merger, the waiting frames of both streams, and the two counts.
 pub struct Work {
     pub merger: Merger,
     pub shelf: Shelf,
-    pub earlier: Earlier,
     pub answered: Answered,
     pub gone: Gone,
 }
@@ -49,4 +49,10 @@ pub fn release_counted()
 // When nothing waits, every frame taken in is counted.
 pub fn all_counted()
     ensures { λ _. ⌜ allCounted ⌝ }
+{}
+
+// Two whole recordings: all their frames are handed in, in their order; the merged journal holds those that the merger released, each with the envelope of the
+// stream that it names, in its stream's order and none twice; and every frame of both is in the journal or in exactly one count.
+pub fn merged_rule()
+    ensures { λ _. ⌜ mergedRule ⌝ }
 {}

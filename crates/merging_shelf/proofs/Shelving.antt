@@ -19,7 +19,7 @@ use Rattle.merger_rules.specs.declared.Freed.{Freed}
 use Rattle.merger_rules.specs.declared.Place.{Place}
 use Rattle.merger_rules.specs.declared.Place.the-variants.{Empty, Holds}
 use Rattle.merger_rules.specs.declared.Position.{Position}
-use Rattle.merging_shelf.specs.Slots.{shelfSlots, bitAt, used, IsSlot, cleared, countFree, countFreed}
+use Rattle.merging_shelf.specs.Slots.{shelfSlots, freeSlot, bitAt, used, IsSlot, cleared, countFree, countFreed}
 
 -- ---- sums over the slots
 
@@ -97,6 +97,13 @@ all-used n t h = sum-ext n (bitAt t) (λ x. 1) (λ k l. bit-taken t k (h k l)) �
 pub not-all : (t : List Bool) → used t < shelfSlots → ((k : ℕ) → k < shelfSlots → getD t k false ≡ true) → ⊥
 unfolding used
 not-all t u h = omega (arith, all-used shelfSlots t h)
+
+-- the slots before it are taken
+pub first-free : (t : List Bool) (k : ℕ) → ((j : ℕ) → j < k → getD t j false ≡ true) → getD t k false ≡ false → k < length t → k ≡ freeSlot t
+unfolding freeSlot
+first-free [] k h f l = absurd (omega arith)
+first-free (b ∷ t) zero h f l = sym (ap (λ (c : Bool). cond c (suc (freeSlot t)) 0) f)
+first-free (b ∷ t) (suc k) h f l = ap suc (first-free t k (λ j i. h (suc j) (suc-le-suc i)) f (omega arith)) ∙ sym (ap (λ (c : Bool). cond c (suc (freeSlot t)) 0) (h 0 (omega arith)))
 
 pub none-used : (t : List Bool) (l : List Position) → ((x : ℕ) → bitAt t x ≡ pendingOf x l) → length l ≡ 0 → used t ≡ 0
 unfolding used
@@ -205,7 +212,3 @@ module _ (t : List Bool) (f : Freed) (rest : ℕ → ℕ) (long : length t ≡ s
 
   pub number-small : (x : ℕ) → 1 ≤ inFreed x f → x < shelfSlots
   number-small x h = let within : x < length t = bit-within t x (omega (arith, gives x)) in omega arith
-
--- ---- the envelopes
-pub one-envelope : (a : ℕ) → a + 48 - a ≡ 48
-one-envelope a = omega arith

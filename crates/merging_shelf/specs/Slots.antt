@@ -1,8 +1,8 @@
 -- The slots of the shelf: which are taken, and which are freed by the numbers that the merger gives back.
 -- Assumes nothing.
 use mathlib.Core.Bool.{Bool, false, cond}
-use mathlib.Core.List.{List, _++_}
-use Prim.Native.Nat.{ℕ, _+_, _*_, _<_}
+use mathlib.Core.List.{List, [], _∷_, _++_}
+use Prim.Native.Nat.{ℕ, suc, _+_, _*_, _<_}
 use lib.ListN.{getD, set, take, drop}
 use Rattle.bits.specs.Bit.{sum}
 use Rattle.merger_rules.specs.declared.Free.{Free}
@@ -20,6 +20,11 @@ bitAt taken x = cond (getD taken x false) 1 0
 -- how many slots are taken
 unfoldable pub used : List Bool → ℕ
 used taken = sum shelfSlots (bitAt taken)
+
+-- the first free slot of the shelf: its place is the number that the merger gets with the frame
+unfoldable pub freeSlot : List Bool → ℕ
+freeSlot [] = 0
+freeSlot (t ∷ ts) = cond t (suc (freeSlot ts)) 0
 
 -- a number that a place gives back is a slot's
 abbrev pub IsSlot : Free → Type 0

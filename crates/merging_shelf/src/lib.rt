@@ -4,8 +4,9 @@ ghost use mathlib.Core.Path.{_≡_};
 ghost use mathlib.Core.Bool.{true, false};
 ghost use Prim.Native.Nat.{_<_};
 ghost use lib.ListN.{length, getD, set, replicate};
-ghost use Rattle.merging_shelf.specs.Slots.{shelfSlots, used, IsSlot, cleared, countFree, countFreed, envelopeIn, putIn};
-use frame_records::Tried;
+ghost use Rattle.journal_rules.specs.declared.Outcome.the-variants.{Untried};
+ghost use Rattle.merging_shelf.specs.Slots.{shelfSlots, freeSlot, used, IsSlot, cleared, countFree, countFreed, putIn};
+use journal_rules::Tried;
 use merger_rules::Free;
 use merger_rules::Freed;
 
@@ -18,7 +19,7 @@ pub struct Shelf {
 
 // Gives a shelf on which nothing lies.
 pub fn empty() -> Shelf
-    ensures { λ r. ⌜ r .taken ≡ replicate shelfSlots false ⌝ }
+    ensures { λ r. ⌜ r ≡ record { taken = replicate shelfSlots false; tried = replicate shelfSlots (record { outcome = Untried; corrected = 0 }); envelopes = replicate 1584 0 } ⌝ }
 {
     let none = Tried {
         outcome: journal_rules::Outcome::Untried,
@@ -34,7 +35,8 @@ pub fn empty() -> Shelf
 // Finds the first free slot. There is one: the caller shows that not all are taken.
 pub fn free_slot(taken: [bool; 33]) -> usize
     requires { ⌜ used taken < shelfSlots ⌝ }
-    ensures { λ r. ⌜ (r < shelfSlots) × (getD taken r false ≡ false) ⌝ }
+    ensures free { λ r. ⌜ (r < shelfSlots) × (getD taken r false ≡ false) ⌝ }
+    ensures first { λ r. ⌜ r ≡ freeSlot taken ⌝ }
 {
     let mut k = 0;
     while k < 33 {
@@ -78,18 +80,6 @@ pub fn with_frame(shelf: Shelf, slot: usize, tried: Tried, envelope: &[u8]) -> S
     }
 }
 
-// Copies an envelope out of its slot.
-pub fn envelope_in(envelopes: [u8; 1584], slot: usize) -> [u8; 48]
-    requires { ⌜ slot < shelfSlots ⌝ }
-    ensures { λ r. ⌜ r ≡ envelopeIn slot envelopes ⌝ }
-{
-    let mut envelope = [0u8; 48];
-    let from = 48 * slot;
-    let to = from + 48;
-    bits::copy(&envelopes[from..to], &mut envelope);
-    envelope
-}
-
 // Frees the slot whose number the merger gave back.
 fn freed_slot(taken: [bool; 33], free: Free) -> [bool; 33]
     requires { ⌜ IsSlot free ⌝ }
@@ -108,7 +98,7 @@ fn freed_slot(taken: [bool; 33], free: Free) -> [bool; 33]
 // Frees the slots whose numbers the merger gave back; what lies in them stays until another frame is laid there.
 pub fn without(shelf: Shelf, freed: Freed) -> Shelf
     requires { ⌜ IsSlot (freed .primary) ⌝ ∗ ⌜ IsSlot (freed .alternate) ⌝ }
-    ensures { λ r. ⌜ r .taken ≡ cleared (freed .alternate) (cleared (freed .primary) (shelf .taken)) ⌝ }
+    ensures { λ r. ⌜ r ≡ record { taken = cleared (freed .alternate) (cleared (freed .primary) (shelf .taken)); tried = shelf .tried; envelopes = shelf .envelopes } ⌝ }
 {
     let first = freed.primary;
     let second = freed.alternate;

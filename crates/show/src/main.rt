@@ -3,5 +3,9 @@
 // `frame OFFSET MATCHED ERRORS OUTCOME`, `gap OFFSET LENGTH`, and last `end RECORDS FRAMES GAPS`;
 // the first bad record, or one that the input ends within, is the last: `refused 12 RECORD`.
 fn main() {
-    tasks::show(0);
+    if os::arg_count() > 1 {
+        channels::usage(b"show");
+        return;
+    }
+    task_show::show(0);
 }

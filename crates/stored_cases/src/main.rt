@@ -23,16 +23,16 @@ fn run_on_file(letter: u8, i: usize) -> usize
     let fd = opened(i);
     io::write_all(1, b"\n");
     if letter == b'i' {
-        tasks::list(fd);
+        task_lines::list(fd);
     }
     if letter == b'l' {
-        tasks::slips(fd);
+        task_lines::slips(fd);
     }
     if letter == b'e' {
-        tasks::record(fd);
+        task_records::record(fd);
     }
     if letter == b'h' {
-        tasks::show(fd);
+        task_show::show(fd);
     }
     libc::close(fd);
     2
@@ -50,9 +50,9 @@ fn run_with_table(letter: u8, i: usize) -> usize
     let mut table = [0u8; 188];
     if table_file::from_argument(i, 1, &mut table) {
         if letter == b'r' {
-            tasks::record_decoded(fd, &table);
+            task_records::record_decoded(fd, &table);
         } else {
-            tasks::speak(fd, &table);
+            task_records::speak(fd, &table);
         }
     }
     libc::close(fd);
@@ -71,7 +71,7 @@ fn run_merge(i: usize) -> usize
     io::write_all(1, b"\n");
     let mut table = [0u8; 188];
     if table_file::from_argument(i, 1, &mut table) {
-        merging::merge(&table, primary, alternate);
+        task_merge::merge(&table, primary, alternate);
     }
     libc::close(primary);
     libc::close(alternate);

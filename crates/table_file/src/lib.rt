@@ -8,23 +8,29 @@ ghost use Rattle.protected_rules.specs.Table.{Admitted};
 fn refuse(name: &[u8], errors: i32) -> bool
     ensures { λ r. ⌜ r ≡ false ⌝ }
 {
-    io::write_all(errors, b"refused ");
-    io::print_decimal(errors, bits::number_of(bits::Refusal::Table) as u64);
-    io::write_all(errors, b" ");
-    io::write_all(errors, name);
-    io::write_all(errors, b"\n");
+    let mut digits = [0u8; 20];
+    let n = io::decimal(bits::number_of(bits::Refusal::Table) as u64, &mut digits);
+    channels::write_whole(errors, b"refused ");
+    channels::write_whole(errors, &digits[..n]);
+    channels::write_whole(errors, b" ");
+    channels::write_whole(errors, name);
+    channels::write_whole(errors, b"\n");
     false
 }
 
-// Reads the file into the lent table, and tells whether it holds exactly as many bytes: it asks for one more to see that none follows.
+// Reads the file into the lent table, and tells whether it holds exactly as many bytes: it asks for one more to see that none follows. Where a read fails
+// the answer is a no, and nothing else is said of it.
 fn read_whole(fd: i32, table: &mut [u8]) -> bool {
-    let size = io::read_full(fd, &mut *table);
+    let filled = channels::fill(fd, &mut *table);
     let mut behind = [0u8; 1];
-    let rest = io::read_full(fd, &mut behind);
-    if size < table.len() {
+    let rest = channels::fill(fd, &mut behind);
+    if filled.bytes < table.len() {
         return false;
     }
-    rest == 0
+    if rest.failed {
+        return false;
+    }
+    rest.bytes == 0
 }
 
 // Reads the table from the file of that name and says yes only where what is left in the lent table is admitted; it refuses any other.

@@ -3,6 +3,7 @@
 use mathlib.Core.List.{[]}
 use lib.ListN.{drop}
 use Rattle.protected_rules.proofs.Admission.{admits-admitted, admitted-admits}
+use Rattle.recorder_rules.specs.Steps.{dibitsOf}
 use Rattle.sync_inputs.specs.Inputs.{hardly, softly, unpacked}
 use Rattle.sync_rules.specs.State.{hard}
 use Rattle.tail_rules.proofs.ErasedPlaces.{not-erasable, erasable-not}
@@ -10,6 +11,7 @@ use Rattle.tail_rules.proofs.Searching.{means}
 use Rattle.demands.specs.Demand1.{soft}
 use Rattle.demands.proofs.RefusedSizes as sizes
 use Rattle.demands.proofs.RefusedPushes.{push-refuses, feed-refuses}
+use Rattle.demands.proofs.RefusedSteps.{step-refuses}
 use Rattle.demands.proofs.RefusedFrames.{merger-push, write, read}
 use Rattle.demands.proofs.demand_one.Statement.{statement}
 use Rattle.demands.proofs.demand_one.Tie as tie
@@ -32,6 +34,7 @@ returns c =
       feed = λ s dibits. feed-refuses s (hardly dibits);
       feed-soft = λ s dibits reliable. feed-refuses s (softly dibits reliable);
       feed-packed = λ s bytes start. feed-refuses s (hardly (drop start (unpacked bytes)));
+      step = λ p q r bytes from. step-refuses p q r (dibitsOf bytes from);
       merger-push = merger-push;
       write = write;
       read = read;

@@ -1,29 +1,38 @@
--- `offer_once`: the merger's answer is counted once, and the slot is taken where the frame was kept.
+-- `offer_once`: the merger's answer is counted once, and the frame is laid into its slot where it was kept.
 -- Assumes nothing.
-use mathlib.Core.Path.{_≡_, ap, _∙_}
+use denote.Ref.{now}
+use Rattle.merging_rules.proofs.Takings.{slot-left}
+use Rattle.merging_offering.proofs.Offering.{answered-as, one-more, offered-as, valid-offered}
 use borrow.Author.Needs.{needs}
-use Rattle.merger_rules.specs.Merging.{heldOf}
-use Rattle.merging_rules.specs.Accounts.{toldOf}
-use Rattle.merging_rules.proofs.Takings.{slot-left, push-counted, push-accounts}
 use Rattle.merging_offering.proofs.offer_once.Statement.{statement}
 use Rattle.merging_offering.proofs.offer_once.Tie as tie
 
 free-slot-requires : tie.Need-free-slot-requires
 free-slot-requires c κs =
     let start = c .before .before .before in
-    slot-left (start .args .w) (start .pre .0)
+    slot-left (start .args .w) (start .pre .0 .accounted)
 
 returns : tie.Need-returns
 returns c =
-    let laid = c .before .before .before in
-    let call = laid .before .before in
-    let passes = call .before in
-    let slot = passes .before .before in
+    let lay = c .before .before .before in
+    let call = lay .before .before in
+    let yes = call .before in
+    let slot = yes .before .before in
     let start = slot .before .before .before .before in
     let a = start .args in
-    let h = heldOf (a .head) (slot .free-slot .result) (passes .passes .result) in (
-      push-accounts (a .w) (start .pre .0) (a .stream) h (call .push .result) (call .push .ensures) (slot .free-slot .ensures .0) (slot .free-slot .ensures .1) (a .again) _ _ (laid .laid .ensures) (c .told .ensures),
-      ap toldOf (c .told .ensures) ∙ push-counted (a .again) (call .push .result .answer) (a .w .answered) .0,
+    let v = start .pre .0 in
+    let h = start .pre .1 .1 .1 .0 in
+    let f = start .pre .1 .1 .1 .1 in
+    let one = slot .free-slot .ensures in
+    let g = call .push .ensures in (
+      valid-offered (a .w) v (a .stream) _ (one .1) (a .head) h (a .tried) f _ (yes .passes .ensures) _ g (now (a .envelope)) _ _ (lay .laid-on .ensures) (c .told .ensures) (one .0 .0) (one .0 .1) (start .pre .1 .1 .0),
+      (
+        answered-as (a .w) v (a .stream) _ (one .1) (a .head) h (a .tried) f _ (yes .passes .ensures) _ g (now (a .envelope)),
+        (
+          offered-as (a .w) v (a .stream) _ (one .1) (a .head) h (a .tried) f _ (yes .passes .ensures) _ g (now (a .envelope)) _ _ (lay .laid-on .ensures) (c .told .ensures),
+          one-more (a .w) v (a .stream) _ (one .1) (a .head) h (a .tried) f _ (yes .passes .ensures) _ g (now (a .envelope)),
+        ),
+      ),
     )
 
 pub offer-once-spec : {M : Type 1} → statement M

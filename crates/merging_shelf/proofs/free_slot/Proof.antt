@@ -8,7 +8,7 @@ use lib.ListN.{getD}
 use borrow.Author.Count.{below-more}
 use borrow.Author.Needs.{needs}
 use borrow.Author.Tests.{not-true, not-false}
-use Rattle.merging_shelf.proofs.Shelving.{not-all}
+use Rattle.merging_shelf.proofs.Shelving.{not-all, first-free}
 use Rattle.merging_shelf.proofs.free_slot.Statement.{statement}
 use Rattle.merging_shelf.proofs.free_slot.Tie as tie
 
@@ -22,7 +22,7 @@ loop-holds : tie.Need-loop-holds Inv-loop μ-loop
 loop-holds c = (omega arith, λ j l. absurd (omega arith))
 
 returns : tie.Need-returns Inv-loop μ-loop
-returns c = (omega arith, not-true _ (c .if1 .taken))
+returns c = ((omega arith, not-true _ (c .if1 .taken)), first-free _ _ (c .before .before .loop .inv .1) (not-true _ (c .if1 .taken)) (omega arith))
 
 loop-again : tie.Need-loop-again Inv-loop μ-loop
 loop-again c = (omega arith, below-more (λ (j : ℕ). getD (c .before .before .before .args .t1) j false ≡ true) (c .before .before .loop .k) (c .before .before .loop .inv .1) (not-false _ (c .if1 .left)))

@@ -13,7 +13,8 @@ returns c =
     let second = c .before .before in
     let first = second .before in
     let start = first .before .before in
-    second .freed-slot2 .ensures ∙ ap (λ (t : List Bool). cleared (start .args .freed .alternate) t) (first .freed-slot .ensures)
+    ap (λ (t : List Bool). record { taken = t; tried = start .args .shelf .tried; envelopes = start .args .shelf .envelopes })
+    (second .freed-slot2 .ensures ∙ ap (λ (t : List Bool). cleared (start .args .freed .alternate) t) (first .freed-slot .ensures))
 
 pub without-spec : {M : Type 1} → statement M
 without-spec = tie.close (tie.spec (λ c κs. search needs) (λ c κs. search needs) returns)

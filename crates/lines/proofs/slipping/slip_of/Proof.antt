@@ -32,7 +32,7 @@ module _ (z : ℤ) (h : mag z < 128) where
 
 -- the line of a frame whose moves were tested
 abbrev lineBy : Bool → Head → Line
-lineBy b h = cond b (lineOf (slipText (h .offset) (h .moves .front) (h .moves .second) (h .moves .third))) (lineOf [])
+lineBy b h = lineOf (cond b (slipText (h .offset) (h .moves .front) (h .moves .second) (h .moves .third)) [])
 
 cast-slip-line : tie.Need-cast-slip-line
 cast-slip-line c = wide (c .before .before .before .before .before .args .head .moves .front) (c .struct-told .given .0 .1)

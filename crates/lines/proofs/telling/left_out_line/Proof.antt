@@ -6,32 +6,15 @@ use Rattle.lines.proofs.telling.left_out_line.Tie as tie
 
 returns : tie.Need-returns
 returns c =
-    let n3 = c .before .before in
-    let w3 = n3 .before in
-    let n2 = w3 .before .before in
-    let w2 = n2 .before in
-    let n1 = w2 .before .before in
-    let w1 = n1 .before in
-    let e = w1 .before .before in
-    c .with-word4 .ensures .1 _
-    (n3 .with-number3 .ensures .1 _
-    (w3 .with-word3 .ensures .1 _
-    (n2 .with-number2 .ensures .1 _
-    (w2 .with-word2 .ensures .1 _
-    (n1 .with-number .ensures .1 _
-    (w1 .with-word .ensures .1 _
-    (e .empty .ensures .1)))))))
+    let n = c .before .before in
+    let w = n .before in
+    let l = w .before .before in
+    c .with-word2 .ensures .1 _ (n .with-number .ensures .1 _ (w .with-word .ensures .1 _ (l .left-out-words .ensures .1)))
 
 pub left-out-line-spec : {M : Type 1} → statement M
 left-out-line-spec =
     tie.close
     (tie.spec
-    (λ c κs. search needs)
-    (λ c. search needs)
-    (λ c κs. search needs)
-    (λ c κs. search needs)
-    (λ c. search needs)
-    (λ c κs. search needs)
     (λ c κs. search needs)
     (λ c. search needs)
     (λ c κs. search needs)

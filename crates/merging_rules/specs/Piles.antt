@@ -1,0 +1,163 @@
+-- What two recordings are merged with, and what each call does to it: the merger, the shelf where the frames wait that it holds, and the two counts. A call
+-- hands on frames, in order, and says which calls of the merger it made.
+-- Assumes nothing.
+use mathlib.Core.Bool.{Bool, true, false, cond}
+use mathlib.Core.List.{List, [], _∷_, _++_}
+use Prim.Native.Nat.{ℕ, zero, suc}
+use lib.ListN.{getD, set, replicate}
+use Rattle.journal_rules.specs.Gaps.{Framed}
+use Rattle.journal_rules.specs.declared.Tried.{Tried}
+use Rattle.merger_rules.specs.Merging.{View, heldOf, PushStep, pushOf, releaseOf}
+use Rattle.merger_rules.specs.Scripts.{Call, push, release, started}
+use Rattle.merger_rules.specs.declared.Clock.{Clock}
+use Rattle.merger_rules.specs.declared.Clock.the-variants.{Absent}
+use Rattle.merger_rules.specs.declared.Free.{Free}
+use Rattle.merger_rules.specs.declared.Free.the-variants.{Nothing, Number}
+use Rattle.merger_rules.specs.declared.Freed.{Freed}
+use Rattle.merger_rules.specs.declared.Held.{Held}
+use Rattle.merger_rules.specs.declared.Keeping.{Keeping}
+use Rattle.merger_rules.specs.declared.Keeping.the-variants.{Kept, Double, Late, Refused}
+use Rattle.merger_rules.specs.declared.Release.{Release}
+use Rattle.merger_rules.specs.declared.Released.{Released}
+use Rattle.merger_rules.specs.declared.Released.the-variants.{Frame, PassedOver, NothingReady}
+use Rattle.merging_shelf.specs.Slots.{shelfSlots, freeSlot, cleared, countFreed, envelopeIn, putIn}
+use Rattle.merging_shelf.specs.declared.Shelf.{Shelf}
+use Rattle.recorder_rules.specs.Makings.{Trying, untried, isAccepted}
+use Rattle.sync_call_rules.specs.Calls.{Got}
+use Rattle.merging_rules.specs.declared.Answered.{Answered}
+use Rattle.merging_rules.specs.declared.Gone.{Gone}
+use Rattle.merging_rules.specs.Accounts.{counted, goneBy}
+
+pub record Pile : Type 0 where
+  pub merger : View
+  pub shelf : Shelf
+  pub answered : Answered
+  pub gone : Gone
+
+-- what a call leaves, the frames that it hands on, and the calls of the merger that it made
+pub record Handed : Type 0 where
+  pub pile : Pile
+  pub out : List Framed
+  pub calls : List Call
+
+abbrev pub handed : Pile → List Framed → List Call → Handed
+handed p fs cs = record { pile = p; out = fs; calls = cs }
+
+-- a call, and then another on what it leaves
+abbrev pub then : Handed → (Pile → Handed) → Handed
+then h f = handed (f (h .pile) .pile) (h .out ++ f (h .pile) .out) (h .calls ++ f (h .pile) .calls)
+
+-- ---- the start
+
+abbrev pub emptyShelf : Shelf
+emptyShelf = record { taken = replicate shelfSlots false; tried = replicate shelfSlots (untried []); envelopes = replicate 1584 0 }
+
+abbrev pub noPile : Pile
+noPile = record { merger = started; shelf = emptyShelf; answered = record { kept = 0; late = 0; double = 0; refused = 0 }; gone = record { released = 0; others = 0; passed = 0 } }
+
+-- ---- a frame is handed in
+
+abbrev pub slotFor : Pile → ℕ
+slotFor p = freeSlot (p .shelf .taken)
+
+-- whether the decoder accepts a frame: the yes or no that goes into the merger with it
+abbrev pub decodes : Trying → Got → Bool
+decodes try g = isAccepted (try (g .envelope) .outcome)
+
+-- what the merger gets of it
+abbrev pub heldFor : Trying → Got → Pile → Held
+heldFor try g p = heldOf (g .head) (slotFor p) (decodes try g)
+
+abbrev pub pushFor : Trying → ℕ → Got → Pile → PushStep
+pushFor try stream g p = pushOf stream (heldFor try g p) (p .merger)
+
+-- a frame that is kept is laid into its slot, its envelope and what is said of it
+abbrev pub laidOn : Keeping → ℕ → Tried → List ℕ → Shelf → Shelf
+laidOn Kept slot t envelope s = record { taken = set (s .taken) slot true; tried = set (s .tried) slot t; envelopes = putIn slot envelope (s .envelopes) }
+laidOn Double slot t envelope s = s
+laidOn Late slot t envelope s = s
+laidOn (Refused x) slot t envelope s = s
+
+-- a frame is handed in once, and the answer counted
+abbrev pub offeredOnce : Trying → ℕ → Got → Pile → Handed
+offeredOnce try stream g p =
+    handed
+    (record {
+      merger = pushFor try stream g p .next;
+      shelf = laidOn (pushFor try stream g p .answer) (slotFor p) (try (g .envelope)) (g .envelope) (p .shelf);
+      answered = counted (pushFor try stream g p .answer) (p .answered);
+      gone = p .gone;
+    })
+    []
+    (push stream (heldFor try g p) ∷ [])
+
+-- ---- what is ready is handed on
+
+abbrev pub freedSlot : Free → ℕ
+freedSlot Nothing = 0
+freedSlot (Number n) = n
+
+-- the envelope of the stream that the merger names, from the slots of the position that it gave back
+abbrev pub envelopeFor : Freed → Bool → List ℕ → List ℕ
+envelopeFor f alternate envelopes = cond alternate (envelopeIn (freedSlot (f .alternate)) envelopes) (envelopeIn (freedSlot (f .primary)) envelopes)
+
+-- a frame as it is written: the merger's offset, its own figures and envelope, and what was said of it
+abbrev pub framedFrom : Shelf → Freed → Release → Framed
+framedFrom s f r =
+    record {
+      place = r .figures .offset;
+      figures = record { matched = r .figures .matched; errors = r .figures .errors; outcome = getD (s .tried) (r .number) (untried []) .outcome; corrected = getD (s .tried) (r .number) (untried []) .corrected };
+      bytes = envelopeFor f (r .alternate) (s .envelopes);
+    }
+
+abbrev pub framesOut : Shelf → Freed → Released → List Framed
+framesOut s f (Frame r) = framedFrom s f r ∷ []
+framesOut s f PassedOver = []
+framesOut s f NothingReady = []
+
+abbrev pub shelfWithout : Freed → Shelf → Shelf
+shelfWithout f s = record { taken = cleared (f .alternate) (cleared (f .primary) (s .taken)); tried = s .tried; envelopes = s .envelopes }
+
+-- the first position is taken out and handed on, if it is ready
+abbrev pub released : Clock → Clock → Bool → Pile → Handed
+released a b flush p =
+    handed
+    (record {
+      merger = releaseOf a b flush (p .merger) .next;
+      shelf = shelfWithout (releaseOf a b flush (p .merger) .freed) (p .shelf);
+      answered = p .answered;
+      gone = goneBy (releaseOf a b flush (p .merger) .answer) (countFreed (releaseOf a b flush (p .merger) .freed)) (p .gone);
+    })
+    (framesOut (p .shelf) (releaseOf a b flush (p .merger) .freed) (releaseOf a b flush (p .merger) .answer))
+    (release a b flush ∷ [])
+
+-- n times
+unfoldable pub releasedTimes : ℕ → Clock → Clock → Bool → Pile → Handed
+releasedTimes zero a b flush p = handed p [] []
+releasedTimes (suc n) a b flush p = then (released a b flush p) (releasedTimes n a b flush)
+
+-- all that is ready: at most 16 positions wait
+abbrev pub allReleased : Clock → Clock → Bool → Pile → Handed
+allReleased a b flush p = releasedTimes 16 a b flush p
+
+-- ---- a frame with its refusal 9
+
+-- a frame that decodes and is refused: 16 positions wait, and none is its own
+abbrev pub insists : Bool → Keeping → Bool
+insists decoded Kept = false
+insists decoded Double = false
+insists decoded Late = false
+insists decoded (Refused x) = decoded
+
+-- It is handed in. Where it is refused, one that does not decode gives way and is counted; only for one that decodes is the first position released before
+-- its time, as at a flush, and the frame handed in once more.
+abbrev pub offered : Trying → ℕ → Got → Pile → Handed
+offered try stream g p =
+    cond (insists (decodes try g) (pushFor try stream g p .answer))
+    (then (then (handed p [] (push stream (heldFor try g p) ∷ [])) (released Absent Absent true)) (offeredOnce try stream g))
+    (offeredOnce try stream g p)
+
+-- frames one after the other
+unfoldable pub offeredAll : Trying → ℕ → List Got → Pile → Handed
+offeredAll try stream [] p = handed p [] []
+offeredAll try stream (g ∷ gs) p = then (offered try stream g p) (offeredAll try stream gs)

@@ -1,0 +1,4 @@
+pub mod Slots
+pub mod Shares
+pub mod Stepping
+pub mod Histories

@@ -1,0 +1,4 @@
+pub mod Makings
+pub mod Steps
+pub mod Calls
+pub mod Statements
