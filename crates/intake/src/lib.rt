@@ -25,15 +25,22 @@ pub struct Cursor {
     pub going: Going,
 }
 
+// Gives the cursor of a piece of so many bytes, of which no dibit is used.
+fn piece_of(size: usize, going: Going) -> Cursor
+    ensures { λ r. ⌜ r ≡ cursorAt size 0 going ⌝ }
+{
+    Cursor {
+        size,
+        from: 0,
+        going,
+    }
+}
+
 // Gives the cursor of a file of which nothing is read.
 pub fn opened() -> Cursor
     ensures { λ r. ⌜ r ≡ cursorAt 0 0 Going.On ⌝ }
 {
-    Cursor {
-        size: 0,
-        from: 0,
-        going: Going::On,
-    }
+    piece_of(0, Going::On)
 }
 
 // Tells whether a stream goes on.
@@ -61,21 +68,9 @@ fn came(intake: Intake) -> Cursor
     ensures { λ r. ⌜ r ≡ cameAs intake ⌝ }
 {
     match intake {
-        Intake::Bytes(n) => Cursor {
-            size: n,
-            from: 0,
-            going: Going::On,
-        },
-        Intake::Ended => Cursor {
-            size: 0,
-            from: 0,
-            going: Going::Ended,
-        },
-        Intake::Failed => Cursor {
-            size: 0,
-            from: 0,
-            going: Going::Broken,
-        },
+        Intake::Bytes(n) => piece_of(n, Going::On),
+        Intake::Ended => piece_of(0, Going::Ended),
+        Intake::Failed => piece_of(0, Going::Broken),
     }
 }
 
