@@ -63,7 +63,7 @@ pub flush-refused : (out : List ℕ) (r : MergeRecorder) → length out < mergeN
 unfolding lastWritten
 flush-refused out r small s e =
     let p = pileOf (r .work) in
-    let none : flushedIn (length out) p ≡ record { pile = p; out = []; calls = [] } = cond-lt (length out) mergeNeed _ _ small in
+    let none : flushedIn (length out) p ≡ record { pile = p; out = []; deeds = [] } = cond-lt (length out) mergeNeed _ _ small in
     subst (λ (z : MergeStepped). MergeFlushedBy out out r z) (sym e)
     (record {
       answer = sym (cond-lt (length out) mergeNeed _ _ small);

@@ -44,7 +44,7 @@ walk-front (suc n) try xs ys us vs b p q =
     ∙ ap (λ (w : Turned). joined w (turn try (take 1 (drop n us)) (take 1 (drop n vs)) (w .both))) before
   where
     joined : Turned → Turned → Turned
-    joined w t = record { both = t .both; out = w .out ++ t .out; calls = w .calls ++ t .calls }
+    joined w t = record { both = t .both; out = w .out ++ t .out; deeds = w .deeds ++ t .deeds }
 
 -- n turns behind the first m
 pub record Onwards (try : Trying) (xs ys : List Input) (b : Both) (m n : ℕ) : Type 0 where

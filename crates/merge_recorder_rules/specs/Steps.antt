@@ -85,7 +85,7 @@ pub record MergeSteppedBy (try : Trying) (out left : List ℕ) (xs : List Input)
 
 -- what still waits is handed on when both streams have ended; too little memory is refused by 2, and nothing is done then
 abbrev pub flushedIn : ℕ → Pile → Handed
-flushedIn size p = cond (ltb size mergeNeed) (record { pile = p; out = []; calls = [] }) (flushed p)
+flushedIn size p = cond (ltb size mergeNeed) (record { pile = p; out = []; deeds = [] }) (flushed p)
 
 pub record MergeFlushedBy (out left : List ℕ) (r : MergeRecorder) (a : MergeStepped) : Type 0 where
   pub answer : a .answer ≡ cond (ltb (length out) mergeNeed) (Refused FrameRoom) Taken

@@ -1,1 +1,2 @@
 pub mod Shelves
+pub mod Yields

@@ -3,7 +3,7 @@ ghost use mathlib.Core.Path.{_≡_};
 ghost use Prim.Native.Nat.{_+_, _<_};
 ghost use lib.ListN.{length};
 ghost use Rattle.merging_rules.specs.Accounts.{mostTold, toldOf, counted};
-ghost use Rattle.merging_rules.specs.Piles.{laidOn, insists};
+ghost use Rattle.merging_rules.specs.Piles.{laidOn, insists, yields};
 ghost use Rattle.merging_shelf.specs.Slots.{shelfSlots};
 ghost use Rattle.recorder_rules.specs.Makings.{isAccepted};
 use journal_rules::Outcome;
@@ -83,5 +83,17 @@ pub fn insisting(answer: Keeping, decoded: bool) -> bool
         Keeping::Double => false,
         Keeping::Late => false,
         Keeping::Refused(_) => decoded,
+    }
+}
+
+// Tells whether a frame gives way: one that does not decode and was refused, or given the last of the 16 positions; `before` and `after` its push so many waited.
+pub fn yielding(answer: Keeping, decoded: bool, before: usize, after: usize) -> bool
+    ensures { λ r. ⌜ r ≡ yields decoded answer before after ⌝ }
+{
+    match answer {
+        Keeping::Kept => !decoded && (15 < after && before < after),
+        Keeping::Double => false,
+        Keeping::Late => false,
+        Keeping::Refused(_) => !decoded,
     }
 }

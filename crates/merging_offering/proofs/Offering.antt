@@ -1,4 +1,4 @@
--- What a frame that is handed in leaves can be written later, and frames handed in one after the other.
+-- What a frame that is handed in, or gives way, leaves can be written later; and frames handed in one after the other.
 -- Assumes nothing.
 use mathlib.Core.Path.{_≡_, refl, sym, ap, ap₂, subst, _∙_}
 use mathlib.Core.Bool.{Bool, true, false, cond}
@@ -9,6 +9,7 @@ use native.Mathlib.Numerals.{add-one}
 use lib.ListN.{length, getD, take, drop, length-set, length-append, length-take, length-drop}
 use lib.Seq.{take-suc}
 use Rattle.bits.specs.Alls.{All}
+use Rattle.bits.specs.declared.Refusal.the-variants.{Positions}
 use Rattle.bits.proofs.Alls.{all-at, all-set}
 use Rattle.journal_rules.specs.Gaps.{Framed}
 use Rattle.journal_rules.specs.declared.Tried.{Tried}
@@ -28,7 +29,7 @@ use Rattle.merger_rules.proofs.Pushes.{push-cases, join-cases, open-cases}
 use Rattle.merging_shelf.specs.Slots.{shelfSlots, freeSlot}
 use Rattle.merging_shelf.specs.declared.Shelf.{Shelf}
 use Rattle.merging_rules.specs.Accounts.{toldOf, counted, slotsAfter}
-use Rattle.merging_rules.specs.Piles.{Pile, Handed, handed, then, laidOn, decodes, heldFor, pushFor, offeredOnce, released, insists, offered, offeredAll}
+use Rattle.merging_rules.specs.Piles.{called, Pile, Handed, handed, then, laidOn, decodes, heldFor, pushFor, offeredOnce, released, insists, yields, givesWay, letGo, offered, offeredAll}
 use Rattle.merging_rules.specs.Works.{pileOf, FramesLaid, MovedBy, said, FairTried, Storable, StorablePosition, ValidWork}
 use Rattle.merging_rules.specs.declared.Answered.{Answered}
 use Rattle.merging_rules.specs.declared.Work.{Work}
@@ -131,7 +132,7 @@ module _ (w : Work) (v : ValidWork w) (stream slot : ℕ) (first : slot ≡ free
           envelopes = ap (λ (z : Shelf). length (z .envelopes)) s ∙ laid-long (r .answer) slot t envelope (w .shelf) small long (v .envelopes);
         }
 
--- ---- a frame that is handed in, once or once more
+-- ---- a frame that is handed in, once or once more, or gives way
 pub told-once : (try : Trying) (stream : ℕ) (g : Got) (p q : Pile) → q ≡ offeredOnce try stream g p .pile → toldOf (q .answered) ≡ toldOf (p .answered) + 1
 told-once try stream g p q e = ap (λ (z : Pile). toldOf (z .answered)) e ∙ push-counted (pushFor try stream g p .answer) (p .answered) .0
 
@@ -142,19 +143,53 @@ yes : (b : Bool) (x y : Handed) → b ≡ true → cond b x y ≡ x
 yes b x y e = ap (λ (z : Bool). cond z x y) e
 
 module _ (t : Tried) (stream : ℕ) (g : Got) (w : Work) where
-  -- it is taken in, or gives way
-  pub offered-once : (out : List ℕ) (lay : Laid) (w′ : Work) → insists (decodes (said t) g) (pushFor (said t) stream g (pileOf w) .answer) ≡ false → pileOf w′ ≡ offeredOnce (said t) stream g (pileOf w) .pile
+  -- whether it gives way, by what was counted of the positions
+  pub gives-as : (w′ : Work) (decoded : Bool) (k : Keeping) → ValidWork w → ValidWork w′ → decoded ≡ decodes (said t) g → k ≡ pushFor (said t) stream g (pileOf w) .answer
+      → pileOf w′ ≡ offeredOnce (said t) stream g (pileOf w) .pile → yields decoded k (w .merger .n) (w′ .merger .n) ≡ givesWay (said t) stream g (pileOf w)
+  gives-as w′ decoded k v v′ d a p =
+      ap₂ (λ (b : Bool) (y : Keeping). yields b y (w .merger .n) (w′ .merger .n)) d a
+      ∙ ap₂ (λ (m n : ℕ). yields (decodes (said t) g) (pushFor (said t) stream g (pileOf w) .answer) m n) (sym (len (w .merger) (v .accounted .valid)))
+      (sym (len (w′ .merger) (v′ .accounted .valid)) ∙ ap (λ (q : Pile). length (q .merger .pending)) p)
+
+  -- nothing is handed on
+  moved-none : (h : Handed) (out : List ℕ) (lay : Laid) (w′ : Work) → h .out ≡ [] → pileOf w′ ≡ h .pile → offered (said t) stream g (pileOf w) ≡ h → MovedBy (offered (said t) stream g (pileOf w)) out out lay w′ lay
+  moved-none h out lay w′ n p a =
+      record { pile = p ∙ sym (ap (λ (h : Handed). h .pile) a); laid = subst (λ (fs : List Framed). FramesLaid out out lay fs lay) (sym (ap (λ (h : Handed). h .out) a ∙ n)) (laid-nothing out lay) }
+
+  abbrev insisted : Bool
+  insisted = insists (decodes (said t) g) (pushFor (said t) stream g (pileOf w) .answer)
+
+  -- it is handed in once
+  pub offered-once : (out : List ℕ) (lay : Laid) (w′ : Work) → insisted ≡ false → givesWay (said t) stream g (pileOf w) ≡ false → pileOf w′ ≡ offeredOnce (said t) stream g (pileOf w) .pile
       → MovedBy (offered (said t) stream g (pileOf w)) out out lay w′ lay
-  offered-once out lay w′ e p =
-      let a : offered (said t) stream g (pileOf w) ≡ offeredOnce (said t) stream g (pileOf w) = no _ _ _ e in
-      record { pile = p ∙ sym (ap (λ (h : Handed). h .pile) a); laid = subst (λ (fs : List Framed). FramesLaid out out lay fs lay) (sym (ap (λ (h : Handed). h .out) a)) (laid-nothing out lay) }
+  offered-once out lay w′ e f p =
+      moved-none (offeredOnce (said t) stream g (pileOf w)) out lay w′ refl p
+      (no insisted _ _ e ∙ no (givesWay (said t) stream g (pileOf w)) (letGo (said t) stream g (pileOf w)) (offeredOnce (said t) stream g (pileOf w)) f)
+
+  -- it gives way
+  abbrev without : Work
+  without = record { merger = w .merger; shelf = w .shelf; answered = counted (Refused Positions) (w .answered); gone = w .gone }
+
+  pub offered-none : (out : List ℕ) (lay : Laid) (w′ : Work) → insisted ≡ false → givesWay (said t) stream g (pileOf w) ≡ true → w′ ≡ without → MovedBy (offered (said t) stream g (pileOf w)) out out lay w′ lay
+  offered-none out lay w′ e f p =
+      moved-none (letGo (said t) stream g (pileOf w)) out lay w′ refl (ap pileOf p)
+      (no insisted _ _ e ∙ yes (givesWay (said t) stream g (pileOf w)) (letGo (said t) stream g (pileOf w)) (offeredOnce (said t) stream g (pileOf w)) f)
+
+  pub valid-none : (w′ : Work) → ValidWork w → w′ ≡ without → ValidWork w′
+  valid-none w′ v p =
+      let a = v .accounted in
+      subst ValidWork (sym p)
+      (record { accounted = record { valid = a .valid; slots = a .slots; shelved = a .shelved; balance = a .balance }; storable = v .storable; fair = v .fair; tried = v .tried; envelopes = v .envelopes })
+
+  pub told-none : (w′ : Work) → w′ ≡ without → toldOf (w′ .answered) ≡ toldOf (w .answered) + 1
+  told-none w′ p = ap (λ (z : Work). toldOf (z .answered)) p ∙ push-counted (Refused Positions) (w .answered) .0
 
   -- the first position goes out before its time, and it is handed in once more
   pub offered-twice : (out left : List ℕ) (lay lay′ : Laid) (u w′ : Work) → insists (decodes (said t) g) (pushFor (said t) stream g (pileOf w) .answer) ≡ true
       → MovedBy (released Absent Absent true (pileOf w)) out left lay u lay′ → pileOf w′ ≡ offeredOnce (said t) stream g (pileOf u) .pile
       → MovedBy (offered (said t) stream g (pileOf w)) out left lay w′ lay′
   offered-twice out left lay lay′ u w′ e m p =
-      let a : offered (said t) stream g (pileOf w) ≡ then (then (handed (pileOf w) [] (push stream (heldFor (said t) g (pileOf w)) ∷ [])) (released Absent Absent true)) (offeredOnce (said t) stream g) = yes _ _ _ e in
+      let a : offered (said t) stream g (pileOf w) ≡ then (then (handed (pileOf w) [] (called (push stream (heldFor (said t) g (pileOf w))) ∷ [])) (released Absent Absent true)) (offeredOnce (said t) stream g) = yes _ _ _ e in
       record {
         pile = p ∙ ap (λ (q : Pile). offeredOnce (said t) stream g q .pile) (m .pile) ∙ sym (ap (λ (h : Handed). h .pile) a);
         laid = subst (λ (fs : List Framed). FramesLaid out left lay fs lay′) (sym (ap (λ (h : Handed). h .out) a ∙ append-nil (released Absent Absent true (pileOf w) .out))) (m .laid);

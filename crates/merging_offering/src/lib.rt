@@ -3,12 +3,15 @@ ghost use mathlib.Core.Path.{_≡_};
 ghost use Prim.Native.Nat.{ℕ, _+_, _*_, _≤_, _<_};
 ghost use lib.ListN.{length, getD, take};
 ghost use Rattle.frame_outcomes.specs.Outcomes.{triedOf};
-ghost use Rattle.merging_rules.specs.Accounts.{mostTold, toldOf};
+ghost use Rattle.bits.specs.declared.Refusal.the-variants.{Positions};
+ghost use Rattle.merger_rules.specs.declared.Keeping.the-variants.{Refused};
+ghost use Rattle.merging_rules.specs.Accounts.{mostTold, toldOf, counted};
 ghost use Rattle.merging_rules.specs.Piles.{pushFor, offeredOnce, offered, offeredAll};
 ghost use Rattle.merging_rules.specs.Works.{pileOf, MovedBy, reserved, said, FairTried, Storable, ValidWork};
 ghost use Rattle.sync_call_rules.specs.Calls.{slots};
 ghost use Rattle.sync_rules.specs.Frames.{noHead};
 ghost use Rattle.sync_rules.specs.Sizes.{roomSize};
+use bits::Refusal;
 use frame_outcomes::try_frame;
 use journal_rules::Tried;
 use merger_rules::Clock;
@@ -17,6 +20,7 @@ use merging_answers::insisting;
 use merging_answers::laid_on;
 use merging_answers::passes;
 use merging_answers::told;
+use merging_answers::yielding;
 use merging_releasing::Moved;
 use merging_releasing::release_first;
 use merging_rules::Work;
@@ -61,8 +65,25 @@ fn offer_once(w: Work, stream: usize, head: Head, tried: Tried, envelope: &[u8])
     }
 }
 
-// Hands a frame in, of which `tried` is said. Where it is refused, as with 16 positions waiting, one that does not decode gives way; for one that decodes the
-// first position is released before its time, as at a flush, and the frame is handed in once more.
+// Counts a frame that gives way as refused; all else stays as it was.
+fn let_go(w: Work) -> Work
+    requires { ⌜ toldOf (w .answered) + 1 < mostTold ⌝ }
+    ensures { λ r. ⌜ r ≡ record { merger = w .merger; shelf = w .shelf; answered = counted (Refused Positions) (w .answered); gone = w .gone } ⌝ }
+{
+    let merger = w.merger;
+    let shelf = w.shelf;
+    let answered = w.answered;
+    let gone = w.gone;
+    Work {
+        merger,
+        shelf,
+        answered: told(answered, Keeping::Refused(Refusal::Positions)),
+        gone,
+    }
+}
+
+// Hands a frame in, of which `tried` is said. Where one that decodes is refused, as with 16 positions waiting, the first position is released before its time, as
+// at a flush, and the frame is handed in once more. One that does not decode gives way where it is refused or would take the last position.
 fn offer_tried(
     w: Work,
     laid: Laid,
@@ -81,7 +102,8 @@ fn offer_tried(
     let first = offer_once(w, stream, head, tried, envelope);
     let answer = first.answer;
     let outcome = tried.outcome;
-    let again = insisting(answer, passes(outcome));
+    let decoded = passes(outcome);
+    let again = insisting(answer, decoded);
     if again {
         let fewer = release_first(w, laid, Clock::Absent, Clock::Absent, true, &mut *out);
         let rest = fewer.work;
@@ -91,6 +113,14 @@ fn offer_tried(
         return Moved { work, laid: more };
     }
     let work = first.work;
+    let before = w.merger;
+    let after = work.merger;
+    if yielding(answer, decoded, before.n, after.n) {
+        return Moved {
+            work: let_go(w),
+            laid,
+        };
+    }
     Moved { work, laid }
 }
 

@@ -17,7 +17,7 @@ use Rattle.journal_rules.specs.declared.Earlier.the-variants.{Nothing}
 use Rattle.journal_rules.specs.declared.Figures.{Figures}
 use Rattle.journal_rules.proofs.Gapless.{unchanged, writable}
 use Rattle.merger_rules.specs.Offsets.{Rising}
-use Rattle.merger_rules.specs.Scripts.{Call, started}
+use Rattle.merger_rules.specs.Scripts.{started}
 use Rattle.merger_rules.specs.declared.Clock.{Clock}
 use Rattle.merger_rules.specs.declared.Clock.the-variants.{At}
 use Rattle.merger_rules.proofs.Rising.{rising}
@@ -27,6 +27,7 @@ use Rattle.recorder_rules.specs.Statements.{Apart, JournalOf}
 use Rattle.recorder_rules.proofs.Journals.{pieces-sized, all-read}
 use Rattle.recorder_rules.proofs.Laying.{Sized, records-long}
 use Rattle.sync_call_rules.specs.Calls.{Got}
+use Rattle.merging_rules.specs.Piles.{Deed, callsIn}
 use Rattle.merging_rules.specs.Orders.{noGot}
 use Rattle.merging_rules.proofs.Owning.{Owned, owned, releasesIn, releases-in, OwnFrom, AsOwned}
 use Rattle.merging_rules.proofs.Sending.{Fine}
@@ -88,10 +89,10 @@ module _ (try : Trying) (t : FairTrying try) (gs hs : List Got) (fine : All Fine
   all-allowed [] w a = tt
   all-allowed (f ∷ fs) w a = writable f fs w (all-fair (f ∷ fs) a) (last-low (f .place) fs (a .0 .low) (a .1))
 
-  pub journal-of : (cs : List Call) (fs : List Framed) → AsOwned try gs hs (started .last) (owned cs started) fs → JournalOf fs
+  pub journal-of : (cs : List Deed) (fs : List Framed) → AsOwned try gs hs (started .last) (owned cs started) fs → JournalOf fs
   journal-of cs fs a =
       let os = owned cs started in
-      let w = apart (started .last) os fs (subst (Rising (started .last)) (sym (releases-in cs started)) (rising cs started)) a in
+      let w = apart (started .last) os fs (subst (Rising (started .last)) (sym (releases-in cs started)) (rising (callsIn cs) started)) a in
       let fit = all-fit (started .last) os fs a in
       let sized : Sized fs = all-map (λ (f : Framed) (k : Fits f). k .whole) fs fit in
       let allowed = all-allowed fs w fit in

@@ -6,6 +6,7 @@ pub mod Owning
 pub mod Piling
 pub mod Releasing
 pub mod Sending
+pub mod Yielding
 pub mod Offering
 pub mod Feeding
 pub mod Walking

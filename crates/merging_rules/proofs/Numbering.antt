@@ -11,7 +11,7 @@ use lib.Dec.{ltb}
 use lib.ListN.{length, getD}
 use Rattle.journal_rules.specs.Gaps.{Framed}
 use Rattle.merger_rules.specs.Merging.{View, snapped, pushOf, releaseOf}
-use Rattle.merger_rules.specs.Scripts.{Call, push, release, started, releases}
+use Rattle.merger_rules.specs.Scripts.{push, release, started, releases}
 use Rattle.merger_rules.specs.States.{Sound}
 use Rattle.merger_rules.specs.declared.Clock.{Clock}
 use Rattle.merger_rules.specs.declared.Clock.the-variants.{At}
@@ -21,6 +21,7 @@ use Rattle.merger_rules.proofs.SoundCalls.{start-sound, push-sound, release-sou
 use Rattle.recorder_rules.specs.Makings.{Trying}
 use Rattle.sync_call_rules.specs.Calls.{Got}
 use Rattle.sync_rules.specs.declared.Head.{Head}
+use Rattle.merging_rules.specs.Piles.{Deed, called, gaveWay, callsIn}
 use Rattle.merging_rules.specs.Orders.{noGot, comesAgain, without, InOrder}
 use Rattle.merging_rules.specs.Merged.{AsReleased}
 use Rattle.merging_rules.proofs.Owning.{Owned, owned, releasesIn, releases-in, AsOwned}
@@ -34,6 +35,10 @@ rise-on : (b : Bool) (g : Got) (gs : List Got) (i : ℕ) → Rise i (g ∷ gs) �
 rise-on true g gs i r = r
 rise-on false g gs i r = r .1
 
+rise-less : (k i : ℕ) (gs : List Got) → i ≤ k → Rise k gs → Rise i gs
+rise-less k i [] h r = tt
+rise-less k i (g ∷ gs) h r = (omega (arith, r .0), r .1)
+
 -- the row of the stream that a frame was handed in for
 row-on : (s : ℕ) (h : Held) (v : View) (m i k : ℕ) → Sound v → i ≤ h .figures .offset → h .figures .offset + 384 ≡ k → Row s m (v .pending) i → (b : Bool) → comesAgain (h .check) (pushOf s h v .answer) ≡ b
     → Row s m (pushOf s h v .next .pending) (cond b i k)
@@ -41,30 +46,34 @@ row-on s h v m i k g e n w true a = subst (λ (u : View). Row s m (u .pending) i
 row-on s h v m i k g e n w false a = subst (Row s m (pushOf s h v .next .pending)) n (push-row s h v m i g e w)
 
 module _ (try : Trying) where
-  rises : (cs : List Call) (v : View) (again : Bool) (gs hs : List Got) (x z i j : ℕ) → InOrder try again gs hs cs v → Rise i gs → Rise j hs → Sound v → Row 0 x (v .pending) i → Row 1 z (v .pending) j
+  rises : (cs : List Deed) (v : View) (again : Bool) (gs hs : List Got) (x z i j : ℕ) → InOrder try again gs hs cs v → Rise i gs → Rise j hs → Sound v → Row 0 x (v .pending) i → Row 1 z (v .pending) j
       → OwnRise x z (owned cs v)
   rises [] v again gs hs x z i j w r q g p k = tt
-  rises (push zero h ∷ cs) v again [] hs x z i j w r q g p k = absurd (w .0)
-  rises (push zero h ∷ cs) v again (f ∷ gs) hs x z i j w r q g p k =
+  rises (called (push zero h) ∷ cs) v again [] hs x z i j w r q g p k = absurd (w .0)
+  rises (called (push zero h) ∷ cs) v again (f ∷ gs) hs x z i j w r q g p k =
       let e : h .figures .offset ≡ f .head .offset = ap (λ (y : Head). y .offset) (w .0 .0) in
       let b = comesAgain (h .check) (pushOf 0 h v .answer) in
-      rises cs (pushOf 0 h v .next) b (without b (f ∷ gs)) hs x z (cond b i (f .head .offset + 384)) j (w .1) (rise-on b f gs i r) q (push-sound 0 h v g)
+      rises cs (pushOf 0 h v .next) b (without b (f ∷ gs)) hs x z (cond b i (f .head .offset + 384)) j (w .2) (rise-on b f gs i r) q (push-sound 0 h v g)
       (row-on 0 h v x i (f .head .offset + 384) g (omega (arith, r .0)) (omega arith) p b refl) (other-row 0 h 1 (λ _. refl) v z j k)
-  rises (push (suc s) h ∷ cs) v again gs [] x z i j w r q g p k = absurd (w .0)
-  rises (push (suc s) h ∷ cs) v again gs (f ∷ hs) x z i j w r q g p k =
+  rises (called (push (suc s) h) ∷ cs) v again gs [] x z i j w r q g p k = absurd (w .0)
+  rises (called (push (suc s) h) ∷ cs) v again gs (f ∷ hs) x z i j w r q g p k =
       let e : h .figures .offset ≡ f .head .offset = ap (λ (y : Head). y .offset) (w .0 .0) in
       let b = comesAgain (h .check) (pushOf (suc s) h v .answer) in
-      rises cs (pushOf (suc s) h v .next) b gs (without b (f ∷ hs)) x z i (cond b j (f .head .offset + 384)) (w .1) r (rise-on b f hs j q) (push-sound (suc s) h v g)
+      rises cs (pushOf (suc s) h v .next) b gs (without b (f ∷ hs)) x z i (cond b j (f .head .offset + 384)) (w .2) r (rise-on b f hs j q) (push-sound (suc s) h v g)
       (other-row (suc s) h 0 (λ _. refl) v x i p)
       (row-alternate s 0 z (pushOf (suc s) h v .next .pending) (cond b j (f .head .offset + 384)) (row-on (suc s) h v z j (f .head .offset + 384) g (omega (arith, q .0)) (omega arith) (row-alternate 0 s z (v .pending) j k) b refl))
-  rises (release a b true ∷ cs) v again gs hs x z i j w r q g p k =
+  rises (called (release a b true) ∷ cs) v again gs hs x z i j w r q g p k =
       let next = releaseOf a b true v .next in
       release-goes x z i j (owned cs next) a b true (v .pending) (v .last) p k
       (λ x z p k. rises cs next false gs hs x z i j (w .1) r q (release-sound a b true (v .pending) (v .last) g) p k)
-  rises (release a b false ∷ cs) v again gs hs x z i j w r q g p k =
+  rises (called (release a b false) ∷ cs) v again gs hs x z i j w r q g p k =
       let next = releaseOf a b false v .next in
       release-goes x z i j (owned cs next) a b false (v .pending) (v .last) p k
       (λ x z p k. rises cs next false gs hs x z i j w r q (release-sound a b false (v .pending) (v .last) g) p k)
+  rises (gaveWay zero h ∷ cs) v again [] hs x z i j w r q g p k = absurd (w .0)
+  rises (gaveWay zero h ∷ cs) v again (f ∷ gs) hs x z i j w r q g p k = rises cs v false gs hs x z i j (w .2) (rise-less (f .head .offset + 384) i gs (omega (arith, r .0)) (r .1)) q g p k
+  rises (gaveWay (suc s) h ∷ cs) v again gs [] x z i j w r q g p k = absurd (w .0)
+  rises (gaveWay (suc s) h ∷ cs) v again gs (f ∷ hs) x z i j w r q g p k = rises cs v false gs hs x z i j (w .2) r (rise-less (f .head .offset + 384) j hs (omega (arith, q .0)) (q .1)) g p k
 
   -- ---- what is written for it
 
@@ -120,7 +129,7 @@ module _ (try : Trying) where
               (subst (λ (y : ℕ). AsOwned try gs hs (At y) os fs) (sym (c .place)) (a .1)),
         )
 
-    pub released-as : (cs : List Call) (fs : List Framed) → InOrder try false gs hs cs started → AsOwned try gs hs (started .last) (owned cs started) fs → AsReleased try gs hs 0 0 (started .last) (releases cs started) fs
+    pub released-as : (cs : List Deed) (fs : List Framed) → InOrder try false gs hs cs started → AsOwned try gs hs (started .last) (owned cs started) fs → AsReleased try gs hs 0 0 (started .last) (releases (callsIn cs) started) fs
     released-as cs fs w a =
         subst (λ (rs : List Release). AsReleased try gs hs 0 0 (started .last) rs fs) (releases-in cs started)
         (as-released (owned cs started) fs (started .last) 0 0 0 0 (λ k h e. omega arith) (λ k h e. omega arith) (rises cs started false gs hs 0 0 0 0 w rg rh start-sound (omega arith) (omega arith)) a)

@@ -1,7 +1,7 @@
--- A frame that is handed in, also one that is refused and handed in again: it lies in its slot, and all others where they lay.
+-- A frame that is handed in, also one that is refused and handed in again: it lies in its slot, and all others where they lay; and one that gives way.
 -- Assumes nothing.
 use mathlib.Core.Path.{_≡_, refl, sym, ap, subst, _∙_}
-use mathlib.Core.Bool.{Bool, true, false, cond}
+use mathlib.Core.Bool.{Bool, true, false, true≢false, cond}
 use mathlib.Core.List.{List, [], _∷_}
 use Prim.Native.Nat.{ℕ, zero, suc, _+_, _*_, _≤_, _<_}
 use native.Mathlib.Omega.{arith}
@@ -10,6 +10,7 @@ use lib.ListN.{length, getD, set, length-set}
 use lib.Seq.{getD-set-same, getD-set-other}
 use Rattle.bits.specs.Alls.{All}
 use Rattle.bits.specs.Sizes.{mostOffset}
+use Rattle.bits.specs.declared.Refusal.the-variants.{Positions}
 use Rattle.bits.proofs.Alls.{all-at}
 use Rattle.bits.proofs.Conds.{cond-cases, cond-eq}
 use Rattle.journal_rules.specs.declared.Tried.{Tried}
@@ -33,14 +34,15 @@ use Rattle.recorder_rules.specs.Makings.{Trying, untried}
 use Rattle.sync_call_rules.specs.Calls.{Got}
 use Rattle.merging_rules.specs.declared.Answered.{Answered}
 use Rattle.merging_rules.specs.Accounts.{counted, slotsAfter}
-use Rattle.merging_rules.specs.Piles.{Pile, Handed, handed, then, slotFor, decodes, heldFor, pushFor, laidOn, offeredOnce, released, insists, offered, offeredAll}
+use Rattle.merging_rules.specs.Piles.{called, Pile, Handed, handed, then, slotFor, decodes, heldFor, pushFor, laidOn, offeredOnce, released, insists, givesWay, letGo, offered, offeredAll}
 use Rattle.merging_rules.proofs.Takings.{Laid, laid, push-counted}
 use Rattle.merging_rules.specs.Orders.{noGot, comesAgain}
-use Rattle.merging_rules.specs.Tallies.{howOften, isKept, isDouble, isLate, isRefused, CountsMore}
+use Rattle.merging_rules.specs.Tallies.{howOften, isKept, isDouble, isLate, CountsMore}
 use Rattle.merging_rules.proofs.Slots.{free-at, free-small, no-bit, put-same, put-other, put-long}
 use Rattle.merging_rules.proofs.Sending.{Fine}
 use Rattle.merging_rules.proofs.Piling.{framesAt, Lies, LieAll, Good, Fares, fares-then, fares-none}
 use Rattle.merging_rules.proofs.Releasing.{release-fares, flush-one}
+use Rattle.merging_rules.proofs.Yielding.{not-refused-rests, handed-once}
 
 -- a frame of a list
 pub record IsOf (l : List Got) (g : Got) : Type 0 where
@@ -78,14 +80,13 @@ record Adds (k : Keeping) (l : List Keeping) (a : Answered) : Type 0 where
   kept : counted k a .kept ≡ a .kept + howOften isKept l
   late : counted k a .late ≡ a .late + howOften isLate l
   double : counted k a .double ≡ a .double + howOften isDouble l
-  refused : counted k a .refused ≡ a .refused + howOften isRefused l
+  refused : counted k a .refused ≡ a .refused + 0
 
-adds : (k : Keeping) (l : List Keeping) (a : Answered) → l ≡ k ∷ [] → Adds k l a
-adds Kept l a e = record { kept = omega (arith, often-one isKept Kept l e); late = omega (arith, often-one isLate Kept l e); double = omega (arith, often-one isDouble Kept l e); refused = omega (arith, often-one isRefused Kept l e) }
-adds Double l a e = record { kept = omega (arith, often-one isKept Double l e); late = omega (arith, often-one isLate Double l e); double = omega (arith, often-one isDouble Double l e); refused = omega (arith, often-one isRefused Double l e) }
-adds Late l a e = record { kept = omega (arith, often-one isKept Late l e); late = omega (arith, often-one isLate Late l e); double = omega (arith, often-one isDouble Late l e); refused = omega (arith, often-one isRefused Late l e) }
-adds (Refused r) l a e =
-    record { kept = omega (arith, often-one isKept (Refused r) l e); late = omega (arith, often-one isLate (Refused r) l e); double = omega (arith, often-one isDouble (Refused r) l e); refused = omega (arith, often-one isRefused (Refused r) l e) }
+adds : (k : Keeping) (l : List Keeping) (a : Answered) → l ≡ k ∷ [] → insists true k ≡ false → Adds k l a
+adds Kept l a e n = record { kept = omega (arith, often-one isKept Kept l e); late = omega (arith, often-one isLate Kept l e); double = omega (arith, often-one isDouble Kept l e); refused = omega arith }
+adds Double l a e n = record { kept = omega (arith, often-one isKept Double l e); late = omega (arith, often-one isLate Double l e); double = omega (arith, often-one isDouble Double l e); refused = omega arith }
+adds Late l a e n = record { kept = omega (arith, often-one isKept Late l e); late = omega (arith, often-one isLate Late l e); double = omega (arith, often-one isDouble Late l e); refused = omega arith }
+adds (Refused r) l a e n = absurd (true≢false n)
 
 module _ (try : Trying) (gs hs : List Got) (fine : All Fine gs) (also : All Fine hs) where
   abbrev frames : ℕ → List Got
@@ -95,7 +96,7 @@ module _ (try : Trying) (gs hs : List Got) (fine : All Fine gs) (also : All Fine
   fine-at zero = fine
   fine-at (suc s) = also
 
-  is-fine : (s : ℕ) (g : Got) → IsOf (frames s) g → Fine g
+  pub is-fine : (s : ℕ) (g : Got) → IsOf (frames s) g → Fine g
   is-fine s g i = subst Fine (i .same) (all-at Fine noGot (frames s) (i .number) (fine-at s) (i .sent))
 
   -- ---- what lies in the other slots
@@ -180,14 +181,15 @@ module _ (try : Trying) (gs hs : List Got) (fine : All Fine gs) (also : All Fine
         let l = in-slots (Refused r) e in
         record { sound = push-sound s held (p .merger) (w .sound); slots = w .slots; tried = w .tried; room = w .room; shelved = l .shelved; balance = w .balance; lie = shelf-stays (λ f. contrary cc) }
 
-    -- it is counted, where it is not handed in again
-    counts-one : insists (decodes try g) (pushFor try s g p .answer) ≡ false → CountsMore (push s held ∷ []) p (offeredOnce try s g p .pile)
+    -- it is counted, where it is not refused
+    counts-one : insists true (pushFor try s g p .answer) ≡ false → CountsMore (called (push s held) ∷ []) p (offeredOnce try s g p .pile)
     counts-one n =
         let k = pushFor try s g p .answer in
-        let c = adds k (cond (comesAgain (decodes try g) k) [] (k ∷ [])) (p .answered) (ap (λ (b : Bool). cond b [] (k ∷ [])) (sym (as-said (decodes try g) k) ∙ n)) in
+        let done : comesAgain (decodes try g) k ≡ false = sym (as-said (decodes try g) k) ∙ not-refused-rests (decodes try g) k n in
+        let c = adds k (cond (comesAgain (decodes try g) k) [] (k ∷ [])) (p .answered) (ap (λ (b : Bool). cond b [] (k ∷ [])) done) n in
         record { kept = c .kept; late = c .late; double = c .double; refused = c .refused; handed-on = omega arith; passed-over = omega arith }
 
-    once-fares : insists (decodes try g) (pushFor try s g p .answer) ≡ false → Fares try gs hs 1 p (offeredOnce try s g p)
+    once-fares : insists true (pushFor try s g p .answer) ≡ false → Fares try gs hs 1 p (offeredOnce try s g p)
     once-fares n = record {
       good = laid-good (pushFor try s g p .answer) refl;
       follows = refl;
@@ -197,38 +199,53 @@ module _ (try : Trying) (gs hs : List Got) (fine : All Fine gs) (also : All Fine
       counts = counts-one n;
     }
 
+    -- ---- a frame that gives way
+
+    let-go-fares : Fares try gs hs 1 p (letGo try s g p)
+    unfolding howOften
+    let-go-fares = record {
+      good = record { sound = w .sound; slots = w .slots; tried = w .tried; room = w .room; shelved = w .shelved; balance = w .balance; lie = w .lie };
+      follows = refl;
+      out = tt;
+      written = omega arith;
+      told = push-counted (Refused Positions) (p .answered) .0;
+      counts = record { kept = omega arith; late = omega arith; double = omega arith; refused = omega arith; handed-on = omega arith; passed-over = omega arith };
+    }
+
   -- ---- refused, and handed in again
 
-  refused-counts : (s : ℕ) (g : Got) (p : Pile) → insists (decodes try g) (pushFor try s g p .answer) ≡ true → CountsMore (push s (heldFor try g p) ∷ []) p p
+  refused-counts : (s : ℕ) (g : Got) (p : Pile) → insists (decodes try g) (pushFor try s g p .answer) ≡ true → CountsMore (called (push s (heldFor try g p)) ∷ []) p p
   unfolding howOften
   refused-counts s g p e =
       let k = pushFor try s g p .answer in
       let none : cond (comesAgain (decodes try g) k) [] (k ∷ []) ≡ [] = ap (λ (b : Bool). cond b [] (k ∷ [])) (sym (as-said (decodes try g) k) ∙ e) in
       let often : (f : Keeping → Bool) → howOften f (cond (comesAgain (decodes try g) k) [] (k ∷ [])) ≡ 0 = λ f. ap (howOften f) none in
-      record { kept = omega (arith, often isKept); late = omega (arith, often isLate); double = omega (arith, often isDouble); refused = omega (arith, often isRefused); handed-on = omega arith; passed-over = omega arith }
+      record { kept = omega (arith, often isKept); late = omega (arith, often isLate); double = omega (arith, often isDouble); refused = omega arith; handed-on = omega arith; passed-over = omega arith }
 
   -- a push is not refused where fewer than 16 positions wait
-  not-refused : (s : ℕ) (h : Held) (v : View) (d : Bool) → s ≤ 1 → h .figures .offset ≤ mostOffset → length (v .pending) ≤ 15 → insists d (pushOf s h v .answer) ≡ false
-  not-refused s h v d t o l =
+  not-refused : (s : ℕ) (h : Held) (v : View) → s ≤ 1 → h .figures .offset ≤ mostOffset → length (v .pending) ≤ 15 → insists true (pushOf s h v .answer) ≡ false
+  not-refused s h v t o l =
       push-cases Q s h v (λ e. absurd (omega arith)) (λ e. absurd (omega arith)) (λ _. refl)
       (λ _ _. join-cases Q s h v _ (λ _. refl) (λ _. refl))
       (λ _ _. open-cases Q s h v (orderOf (h .figures .offset) (v .pending)) (λ e. let k : 16 ≤ length (v .pending) = leb-true 16 (length (v .pending)) e in absurd (omega arith)) (λ _. refl))
     where
       Q : PushStep → Type 0
-      Q y = insists d (y .answer) ≡ false
+      Q y = insists true (y .answer) ≡ false
 
   -- so it is not refused again once a position was released
-  pub not-again : (s : ℕ) → s ≤ 1 → (g : Got) → IsOf (frames s) g → (p : Pile) → Good try gs hs p → insists (decodes try g) (pushFor try s g (released Absent Absent true p .pile) .answer) ≡ false
+  pub not-again : (s : ℕ) → s ≤ 1 → (g : Got) → IsOf (frames s) g → (p : Pile) → Good try gs hs p → insists true (pushFor try s g (released Absent Absent true p .pile) .answer) ≡ false
   not-again s t g i p w =
       let q = released Absent Absent true p .pile in
-      not-refused s (heldFor try g q) (q .merger) (decodes try g) t (omega (arith, is-fine s g i .low)) (omega (arith, flush-one Absent Absent (p .merger .pending) (p .merger .last), w .sound .few))
+      not-refused s (heldFor try g q) (q .merger) t (omega (arith, is-fine s g i .low)) (omega (arith, flush-one Absent Absent (p .merger .pending) (p .merger .last), w .sound .few))
 
   pub offered-fares : (s : ℕ) → s ≤ 1 → (g : Got) → IsOf (frames s) g → (p : Pile) → Good try gs hs p → Fares try gs hs 1 p (offered try s g p)
   offered-fares s t g i p w =
-      cond-cases (Fares try gs hs 1 p) (insists (decodes try g) (pushFor try s g p .answer)) _ _ again (once-fares s g i p w)
+      cond-cases (Fares try gs hs 1 p) (insists (decodes try g) (pushFor try s g p .answer)) _ _ again
+      (λ n. cond-cases (Fares try gs hs 1 p) (givesWay try s g p) _ _ (λ _. let-go-fares s g i p w)
+      (λ k. once-fares s g i p w (handed-once (decodes try g) (pushFor try s g p .answer) (length (p .merger .pending)) (length (pushFor try s g p .next .pending)) n k)))
     where
       first : Handed
-      first = handed p [] (push s (heldFor try g p) ∷ [])
+      first = handed p [] (called (push s (heldFor try g p)) ∷ [])
 
       again : insists (decodes try g) (pushFor try s g p .answer) ≡ true → Fares try gs hs 1 p (then (then first (released Absent Absent true)) (offeredOnce try s g))
       again e =

@@ -8,7 +8,7 @@ use lib.ListN.{length, getD}
 use Rattle.journal_rules.specs.Gaps.{Framed}
 use Rattle.merger_rules.specs.Merging.{View, choiceOf, snapped, pushOf, releaseOf}
 use Rattle.merger_rules.specs.Offsets.{Advances}
-use Rattle.merger_rules.specs.Scripts.{Call, push, release, given, releases, left}
+use Rattle.merger_rules.specs.Scripts.{push, release, given, releases, left}
 use Rattle.merger_rules.specs.declared.Choice.{Choice}
 use Rattle.merger_rules.specs.declared.Choice.the-variants.{Neither, Chosen}
 use Rattle.merger_rules.specs.declared.Clock.{Clock}
@@ -20,6 +20,7 @@ use Rattle.merger_rules.specs.declared.Released.the-variants.{Frame, PassedOver
 use Rattle.merger_rules.proofs.Rising.{advances, push-last}
 use Rattle.recorder_rules.specs.Makings.{Trying, framedOf}
 use Rattle.sync_call_rules.specs.Calls.{Got}
+use Rattle.merging_rules.specs.Piles.{Deed, called, gaveWay, callsIn}
 use Rattle.merging_rules.specs.Orders.{noGot}
 
 pub record Owned : Type 0 where
@@ -41,18 +42,20 @@ ownGiven (Frame r) c = record { own = ownOf c; release = r } ∷ []
 ownGiven PassedOver c = []
 ownGiven NothingReady c = []
 
-abbrev pub owned : List Call → View → List Owned
+abbrev pub owned : List Deed → View → List Owned
 owned [] v = []
-owned (push s h ∷ cs) v = owned cs (pushOf s h v .next)
-owned (release a b flush ∷ cs) v = ownGiven (releaseOf a b flush v .answer) (chosenAt (v .pending)) ++ owned cs (releaseOf a b flush v .next)
+owned (called (push s h) ∷ cs) v = owned cs (pushOf s h v .next)
+owned (called (release a b flush) ∷ cs) v = ownGiven (releaseOf a b flush v .answer) (chosenAt (v .pending)) ++ owned cs (releaseOf a b flush v .next)
+owned (gaveWay s h ∷ cs) v = owned cs v
 
-pub owned-append : (cs ds : List Call) (v : View) → owned (cs ++ ds) v ≡ owned cs v ++ owned ds (left cs v)
+pub owned-append : (cs ds : List Deed) (v : View) → owned (cs ++ ds) v ≡ owned cs v ++ owned ds (left (callsIn cs) v)
 owned-append [] ds v = refl
-owned-append (push s h ∷ cs) ds v = owned-append cs ds (pushOf s h v .next)
-owned-append (release a b flush ∷ cs) ds v =
+owned-append (called (push s h) ∷ cs) ds v = owned-append cs ds (pushOf s h v .next)
+owned-append (gaveWay s h ∷ cs) ds v = owned-append cs ds v
+owned-append (called (release a b flush) ∷ cs) ds v =
     let y = releaseOf a b flush v in
     let o = ownGiven (y .answer) (chosenAt (v .pending)) in
-    ap (λ (l : List Owned). o ++ l) (owned-append cs ds (y .next)) ∙ sym (append-assoc o (owned cs (y .next)) (owned ds (left cs (y .next))))
+    ap (λ (l : List Owned). o ++ l) (owned-append cs ds (y .next)) ∙ sym (append-assoc o (owned cs (y .next)) (owned ds (left (callsIn cs) (y .next))))
 
 -- they are its releases
 abbrev pub releasesIn : List Owned → List Release
@@ -64,10 +67,11 @@ given-in (Frame r) c os = refl
 given-in PassedOver c os = refl
 given-in NothingReady c os = refl
 
-pub releases-in : (cs : List Call) (v : View) → releasesIn (owned cs v) ≡ releases cs v
+pub releases-in : (cs : List Deed) (v : View) → releasesIn (owned cs v) ≡ releases (callsIn cs) v
 releases-in [] v = refl
-releases-in (push s h ∷ cs) v = releases-in cs (pushOf s h v .next)
-releases-in (release a b flush ∷ cs) v =
+releases-in (called (push s h) ∷ cs) v = releases-in cs (pushOf s h v .next)
+releases-in (gaveWay s h ∷ cs) v = releases-in cs v
+releases-in (called (release a b flush) ∷ cs) v =
     let y = releaseOf a b flush v in
     given-in (y .answer) (chosenAt (v .pending)) (owned cs (y .next)) ∙ ap (λ (l : List Release). given (y .answer) ++ l) (releases-in cs (y .next))
 
@@ -81,10 +85,11 @@ last-given (Frame r) c last next os w = ap (λ (k : Clock). lastBy k os) (w .1)
 last-given PassedOver c last next os w = ap (λ (k : Clock). lastBy k os) w
 last-given NothingReady c last next os w = ap (λ (k : Clock). lastBy k os) w
 
-pub left-last : (cs : List Call) (v : View) → left cs v .last ≡ lastBy (v .last) (owned cs v)
+pub left-last : (cs : List Deed) (v : View) → left (callsIn cs) v .last ≡ lastBy (v .last) (owned cs v)
 left-last [] v = refl
-left-last (push s h ∷ cs) v = left-last cs (pushOf s h v .next) ∙ ap (λ (k : Clock). lastBy k (owned cs (pushOf s h v .next))) (push-last s h v)
-left-last (release a b flush ∷ cs) v =
+left-last (called (push s h) ∷ cs) v = left-last cs (pushOf s h v .next) ∙ ap (λ (k : Clock). lastBy k (owned cs (pushOf s h v .next))) (push-last s h v)
+left-last (gaveWay s h ∷ cs) v = left-last cs v
+left-last (called (release a b flush) ∷ cs) v =
     let y = releaseOf a b flush v in
     left-last cs (y .next) ∙ last-given (y .answer) (chosenAt (v .pending)) (v .last) (y .next .last) (owned cs (y .next)) (advances a b flush v)
 

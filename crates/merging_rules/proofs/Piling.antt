@@ -10,7 +10,7 @@ use Rattle.bits.specs.Alls.{All}
 use Rattle.journal_rules.specs.declared.Tried.{Tried}
 use Rattle.merger_rules.specs.Counts.{pendingOf}
 use Rattle.merger_rules.specs.Merging.{View, pushOf, releaseOf}
-use Rattle.merger_rules.specs.Scripts.{Call, push, release, after, left}
+use Rattle.merger_rules.specs.Scripts.{push, release, left}
 use Rattle.merger_rules.specs.States.{Sound}
 use Rattle.merger_rules.specs.declared.Clock.{Clock}
 use Rattle.merger_rules.specs.declared.Held.{Held}
@@ -23,43 +23,52 @@ use Rattle.merging_shelf.proofs.Shelving.{empty-shelved, none-used}
 use Rattle.recorder_rules.specs.Makings.{Trying, untried}
 use Rattle.sync_call_rules.specs.Calls.{Got}
 use Rattle.merging_rules.specs.Accounts.{toldOf, goneOf}
-use Rattle.merging_rules.specs.Piles.{Pile, Handed, then, noPile}
+use Rattle.merging_rules.specs.Piles.{Deed, called, gaveWay, callsIn, Pile, Handed, then, noPile}
 use Rattle.merging_rules.specs.Orders.{noGot, comesAgain}
-use Rattle.merging_rules.specs.Tallies.{answersOf, howOften, isKept, isDouble, isLate, isRefused, takenOut, isFrame, isPassedOver, CountsMore}
+use Rattle.merging_rules.specs.Tallies.{answersOf, howOften, isKept, isDouble, isLate, waysGiven, takenOut, isFrame, isPassedOver, CountsMore}
 use Rattle.merging_rules.proofs.Owning.{Owned, owned, owned-append, left-last, AsOwned, out-append}
 
 -- ---- scripts, one behind the other
 
-pub left-append : (cs ds : List Call) (v : View) → left (cs ++ ds) v ≡ left ds (left cs v)
+pub left-append : (cs ds : List Deed) (v : View) → left (callsIn (cs ++ ds)) v ≡ left (callsIn ds) (left (callsIn cs) v)
 left-append [] ds v = refl
-left-append (c ∷ cs) ds v = left-append cs ds (after c v)
+left-append (called (push s h) ∷ cs) ds v = left-append cs ds (pushOf s h v .next)
+left-append (called (release a b flush) ∷ cs) ds v = left-append cs ds (releaseOf a b flush v .next)
+left-append (gaveWay s h ∷ cs) ds v = left-append cs ds v
 
 -- ---- what is counted over them
 
-pub answers-append : (cs ds : List Call) (v : View) → answersOf (cs ++ ds) v ≡ answersOf cs v ++ answersOf ds (left cs v)
+pub answers-append : (cs ds : List Deed) (v : View) → answersOf (cs ++ ds) v ≡ answersOf cs v ++ answersOf ds (left (callsIn cs) v)
 answers-append [] ds v = refl
-answers-append (push s h ∷ cs) ds v =
+answers-append (called (push s h) ∷ cs) ds v =
     let k = pushOf s h v .answer in
     let w = pushOf s h v .next in
-    ap (λ (l : List Keeping). cond (comesAgain (h .check) k) l (k ∷ l)) (answers-append cs ds w) ∙ sym (cond-append (comesAgain (h .check) k) k (answersOf cs w) (answersOf ds (left cs w)))
+    ap (λ (l : List Keeping). cond (comesAgain (h .check) k) l (k ∷ l)) (answers-append cs ds w) ∙ sym (cond-append (comesAgain (h .check) k) k (answersOf cs w) (answersOf ds (left (callsIn cs) w)))
   where
     cond-append : (b : Bool) (k : Keeping) (l m : List Keeping) → cond b l (k ∷ l) ++ m ≡ cond b (l ++ m) (k ∷ (l ++ m))
     cond-append true k l m = refl
     cond-append false k l m = refl
-answers-append (release a b flush ∷ cs) ds v = answers-append cs ds (releaseOf a b flush v .next)
+answers-append (called (release a b flush) ∷ cs) ds v = answers-append cs ds (releaseOf a b flush v .next)
+answers-append (gaveWay s h ∷ cs) ds v = answers-append cs ds v
+
+ways-append : (cs ds : List Deed) → waysGiven (cs ++ ds) ≡ waysGiven cs + waysGiven ds
+ways-append [] ds = omega arith
+ways-append (called c ∷ cs) ds = ways-append cs ds
+ways-append (gaveWay s h ∷ cs) ds = omega (arith, ways-append cs ds)
 
 often-append : (f : Keeping → Bool) (ks ls : List Keeping) → howOften f (ks ++ ls) ≡ howOften f ks + howOften f ls
 unfolding howOften
 often-append f [] ls = omega arith
 often-append f (k ∷ ks) ls = omega (arith, often-append f ks ls)
 
-taken-append : (f : Released → Bool) (cs ds : List Call) (v : View) → takenOut f (cs ++ ds) v ≡ takenOut f cs v + takenOut f ds (left cs v)
+taken-append : (f : Released → Bool) (cs ds : List Deed) (v : View) → takenOut f (cs ++ ds) v ≡ takenOut f cs v + takenOut f ds (left (callsIn cs) v)
 taken-append f [] ds v = omega arith
-taken-append f (push s h ∷ cs) ds v = taken-append f cs ds (pushOf s h v .next)
-taken-append f (release a b flush ∷ cs) ds v = omega (arith, taken-append f cs ds (releaseOf a b flush v .next))
+taken-append f (called (push s h) ∷ cs) ds v = taken-append f cs ds (pushOf s h v .next)
+taken-append f (called (release a b flush) ∷ cs) ds v = omega (arith, taken-append f cs ds (releaseOf a b flush v .next))
+taken-append f (gaveWay s h ∷ cs) ds v = taken-append f cs ds v
 
 -- the counts of a script, and of another on what it leaves
-counts-then : (cs ds : List Call) (p q r : Pile) → left cs (p .merger) ≡ q .merger → CountsMore cs p q → CountsMore ds q r → CountsMore (cs ++ ds) p r
+counts-then : (cs ds : List Deed) (p q r : Pile) → left (callsIn cs) (p .merger) ≡ q .merger → CountsMore cs p q → CountsMore ds q r → CountsMore (cs ++ ds) p r
 counts-then cs ds p q r e a b =
     let often : (f : Keeping → Bool) → howOften f (answersOf (cs ++ ds) (p .merger)) ≡ howOften f (answersOf cs (p .merger)) + howOften f (answersOf ds (q .merger))
     = λ f. ap (howOften f) (answers-append cs ds (p .merger) ∙ ap (λ (v : View). answersOf cs (p .merger) ++ answersOf ds v) e) ∙ often-append f (answersOf cs (p .merger)) (answersOf ds (q .merger)) in
@@ -69,7 +78,7 @@ counts-then cs ds p q r e a b =
       kept = omega (arith, a .kept, b .kept, often isKept);
       late = omega (arith, a .late, b .late, often isLate);
       double = omega (arith, a .double, b .double, often isDouble);
-      refused = omega (arith, a .refused, b .refused, often isRefused);
+      refused = omega (arith, a .refused, b .refused, ways-append cs ds);
       handed-on = omega (arith, a .handed-on, b .handed-on, out isFrame);
       passed-over = omega (arith, a .passed-over, b .passed-over, out isPassedOver);
     }
@@ -122,19 +131,19 @@ module _ (try : Trying) (gs hs : List Got) where
 
   pub record Fares (n : ℕ) (p : Pile) (h : Handed) : Type 0 where
     pub good : Good (h .pile)
-    pub follows : left (h .calls) (p .merger) ≡ h .pile .merger
-    pub out : AsOwned try gs hs (p .merger .last) (owned (h .calls) (p .merger)) (h .out)
+    pub follows : left (callsIn (h .deeds)) (p .merger) ≡ h .pile .merger
+    pub out : AsOwned try gs hs (p .merger .last) (owned (h .deeds) (p .merger)) (h .out)
     pub written : h .pile .gone .released ≡ p .gone .released + length (h .out)
     pub told : toldOf (h .pile .answered) ≡ toldOf (p .answered) + n
-    pub counts : CountsMore (h .calls) p (h .pile)
+    pub counts : CountsMore (h .deeds) p (h .pile)
 
   pub fares-then : (m n k : ℕ) → k ≡ m + n → (p : Pile) (h : Handed) (f : Pile → Handed) → Fares m p h → Fares n (h .pile) (f (h .pile)) → Fares k p (then h f)
   fares-then m n k e p h f a b =
-      let cs = h .calls in
-      let ds = f (h .pile) .calls in
+      let cs = h .deeds in
+      let ds = f (h .pile) .deeds in
       record {
         good = b .good;
-        follows = left-append cs ds (p .merger) ∙ ap (left ds) (a .follows) ∙ b .follows;
+        follows = left-append cs ds (p .merger) ∙ ap (left (callsIn ds)) (a .follows) ∙ b .follows;
         out = subst (λ (os : List Owned). AsOwned try gs hs (p .merger .last) os (h .out ++ f (h .pile) .out)) (sym (owned-append cs ds (p .merger) ∙ ap (λ (v : View). owned cs (p .merger) ++ owned ds v) (a .follows)))
             (out-append try gs hs (p .merger .last) (owned cs (p .merger)) (owned ds (h .pile .merger)) (h .out) (f (h .pile) .out) (a .out)
             (subst (λ (k : Clock). AsOwned try gs hs k (owned ds (h .pile .merger)) (f (h .pile) .out)) (ap (λ (v : View). v .last) (sym (a .follows)) ∙ left-last cs (p .merger)) (b .out)));
@@ -143,5 +152,5 @@ module _ (try : Trying) (gs hs : List Got) where
         counts = counts-then cs ds p (h .pile) (f (h .pile) .pile) (a .follows) (a .counts) (b .counts);
       }
 
-  pub fares-none : (p : Pile) → Good p → Fares 0 p (record { pile = p; out = []; calls = [] })
+  pub fares-none : (p : Pile) → Good p → Fares 0 p (record { pile = p; out = []; deeds = [] })
   fares-none p g = record { good = g; follows = refl; out = tt; written = omega arith; told = omega arith; counts = no-counts p }

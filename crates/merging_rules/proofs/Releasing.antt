@@ -36,7 +36,7 @@ use Rattle.sync_call_rules.specs.Calls.{Got}
 use Rattle.sync_rules.specs.declared.Head.{Head}
 use Rattle.merging_rules.specs.declared.Gone.{Gone}
 use Rattle.merging_rules.specs.Accounts.{goneBy, TakesOut}
-use Rattle.merging_rules.specs.Piles.{Pile, framedFrom, framesOut, released, releasedTimes}
+use Rattle.merging_rules.specs.Piles.{called, Pile, framedFrom, framesOut, released, releasedTimes}
 use Rattle.merging_rules.proofs.Takings.{release-gives, release-counted, takes-out, takenBy, release-fell, flush-takes}
 use Rattle.merging_rules.specs.Tallies.{howOften, isFrame, isPassedOver, CountsMore}
 use Rattle.merging_rules.proofs.Owning.{Owned, chosenAt, ownGiven, OwnFrom, AsOwned}
@@ -101,7 +101,7 @@ module _ (try : Trying) (gs hs : List Got) where
 
   -- ---- a release
 
-  release-counts : (a b : Clock) (flush : Bool) (p : Pile) → CountsMore (release a b flush ∷ []) p (released a b flush p .pile)
+  release-counts : (a b : Clock) (flush : Bool) (p : Pile) → CountsMore (called (release a b flush) ∷ []) p (released a b flush p .pile)
   unfolding howOften
   release-counts a b flush p =
       let y = releaseOf a b flush (p .merger) in

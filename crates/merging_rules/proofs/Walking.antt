@@ -33,7 +33,7 @@ use Rattle.merging_rules.proofs.Feeding.{upTo, Fed, fed-one, fed-next, 
 
 -- what a turn hands on and leaves, as of a call
 abbrev pub asHanded : Turned → Handed
-asHanded t = handed (t .both .pile) (t .out) (t .calls)
+asHanded t = handed (t .both .pile) (t .out) (t .deeds)
 
 module _ (try : Trying) (xs ys : List Input) (dx : Dibits xs) (dy : Dibits ys) where
   abbrev pub fares : ℕ → Pile → Handed → Type 0

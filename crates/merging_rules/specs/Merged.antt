@@ -16,7 +16,7 @@ use Rattle.recorder_rules.specs.Statements.{JournalOf}
 use Rattle.sync_call_rules.specs.Calls.{Got}
 use Rattle.sync_rules.specs.State.{Input}
 use Rattle.merging_rules.specs.Accounts.{toldOf, goneOf}
-use Rattle.merging_rules.specs.Piles.{noPile}
+use Rattle.merging_rules.specs.Piles.{callsIn, noPile}
 use Rattle.merging_rules.specs.Turns.{whole, mergedFrames}
 use Rattle.merging_rules.specs.Orders.{sentFor, noGot, InOrder, PrimaryFirst}
 use Rattle.merging_rules.specs.Tallies.{CountsMore}
@@ -48,22 +48,23 @@ Dibits [] = Unit {0}
 Dibits (x ∷ xs) = (x .dibit < 4) × Dibits xs
 
 pub record MergedRule (try : Trying) (xs ys : List Input) : Type 0 where
-  -- what the merger was handed are their frames, all and in their order, each with its own figures and the decoder's yes or no
-  pub in-order : InOrder try false (sentFor xs) (sentFor ys) (whole try xs ys .calls) started
+  -- what the merger was handed are their frames, all and in their order, each with its own figures and the decoder's yes or no; but for those that gave way,
+  -- none of which decodes
+  pub in-order : InOrder try false (sentFor xs) (sentFor ys) (whole try xs ys .deeds) started
   -- in each turn the primary's before the alternate's
-  pub primary-first : PrimaryFirst false (whole try xs ys .calls)
+  pub primary-first : PrimaryFirst false (whole try xs ys .deeds)
   -- a position waits until both streams have moved past it, and no longer
-  pub promised : Promised (At 0) (At 0) (whole try xs ys .calls)
+  pub promised : Promised (At 0) (At 0) (whole try xs ys .deeds)
   pub prompt : (n : ℕ) → Prompt try xs ys n
   -- the frames of the journal are those that the merger released
-  pub released : AsReleased try (sentFor xs) (sentFor ys) 0 0 Absent (releases (whole try xs ys .calls) started) (mergedFrames try xs ys)
+  pub released : AsReleased try (sentFor xs) (sentFor ys) 0 0 Absent (releases (callsIn (whole try xs ys .deeds)) started) (mergedFrames try xs ys)
   -- they are apart, so that their journal has no break from the first to the last, and none of its records is refused
   pub journal : JournalOf (mergedFrames try xs ys)
-  -- every frame of both recordings was taken in, late, double or refused
+  -- every frame of both recordings was taken in, late or double, or counts as refused
   pub told : length (sentFor xs) + length (sentFor ys) ≡ toldOf (whole try xs ys .pile .answered)
   -- every frame taken in is in the journal, gave way to the other stream's frame of its position, or was passed over: none is left waiting
   pub kept : whole try xs ys .pile .answered .kept ≡ goneOf (whole try xs ys .pile .gone)
-  pub counted : CountsMore (whole try xs ys .calls) noPile (whole try xs ys .pile)
+  pub counted : CountsMore (whole try xs ys .deeds) noPile (whole try xs ys .pile)
   pub written : whole try xs ys .pile .gone .released ≡ length (mergedFrames try xs ys)
 
 abbrev pub mergedRule : Type 0

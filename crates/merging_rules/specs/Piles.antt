@@ -1,10 +1,12 @@
 -- What two recordings are merged with, and what each call does to it: the merger, the shelf where the frames wait that it holds, and the two counts. A call
--- hands on frames, in order, and says which calls of the merger it made.
+-- hands on frames, in order, and says what it did: which calls of the merger it made, and which frames gave way.
 -- Assumes nothing.
-use mathlib.Core.Bool.{Bool, true, false, cond}
+use mathlib.Core.Bool.{Bool, true, false, cond, not, _&&_}
 use mathlib.Core.List.{List, [], _∷_, _++_}
 use Prim.Native.Nat.{ℕ, zero, suc}
-use lib.ListN.{getD, set, replicate}
+use lib.Dec.{ltb}
+use lib.ListN.{length, getD, set, replicate}
+use Rattle.bits.specs.declared.Refusal.the-variants.{Positions}
 use Rattle.journal_rules.specs.Gaps.{Framed}
 use Rattle.journal_rules.specs.declared.Tried.{Tried}
 use Rattle.merger_rules.specs.Merging.{View, heldOf, PushStep, pushOf, releaseOf}
@@ -34,18 +36,29 @@ pub record Pile : Type 0 where
   pub answered : Answered
   pub gone : Gone
 
--- what a call leaves, the frames that it hands on, and the calls of the merger that it made
+-- what is done with a frame or a position: a call of the merger, or a frame of a stream, as it would be pushed, gives way and is not handed in
+pub data Deed : Type 0 where
+  called : Call → Deed
+  gaveWay : ℕ → Held → Deed
+
+-- the merger's script
+abbrev pub callsIn : List Deed → List Call
+callsIn [] = []
+callsIn (called c ∷ ds) = c ∷ callsIn ds
+callsIn (gaveWay s h ∷ ds) = callsIn ds
+
+-- what a call leaves, the frames that it hands on, and what it did
 pub record Handed : Type 0 where
   pub pile : Pile
   pub out : List Framed
-  pub calls : List Call
+  pub deeds : List Deed
 
-abbrev pub handed : Pile → List Framed → List Call → Handed
-handed p fs cs = record { pile = p; out = fs; calls = cs }
+abbrev pub handed : Pile → List Framed → List Deed → Handed
+handed p fs ds = record { pile = p; out = fs; deeds = ds }
 
 -- a call, and then another on what it leaves
 abbrev pub then : Handed → (Pile → Handed) → Handed
-then h f = handed (f (h .pile) .pile) (h .out ++ f (h .pile) .out) (h .calls ++ f (h .pile) .calls)
+then h f = handed (f (h .pile) .pile) (h .out ++ f (h .pile) .out) (h .deeds ++ f (h .pile) .deeds)
 
 -- ---- the start
 
@@ -89,7 +102,7 @@ offeredOnce try stream g p =
       gone = p .gone;
     })
     []
-    (push stream (heldFor try g p) ∷ [])
+    (called (push stream (heldFor try g p)) ∷ [])
 
 -- ---- what is ready is handed on
 
@@ -129,7 +142,7 @@ released a b flush p =
       gone = goneBy (releaseOf a b flush (p .merger) .answer) (countFreed (releaseOf a b flush (p .merger) .freed)) (p .gone);
     })
     (framesOut (p .shelf) (releaseOf a b flush (p .merger) .freed) (releaseOf a b flush (p .merger) .answer))
-    (release a b flush ∷ [])
+    (called (release a b flush) ∷ [])
 
 -- n times
 unfoldable pub releasedTimes : ℕ → Clock → Clock → Bool → Pile → Handed
@@ -140,7 +153,7 @@ releasedTimes (suc n) a b flush p = then (released a b flush p) (releasedTimes n
 abbrev pub allReleased : Clock → Clock → Bool → Pile → Handed
 allReleased a b flush p = releasedTimes 16 a b flush p
 
--- ---- a frame with its refusal 9
+-- ---- a frame for which the positions are too few
 
 -- a frame that decodes and is refused: 16 positions wait, and none is its own
 abbrev pub insists : Bool → Keeping → Bool
@@ -149,13 +162,29 @@ insists decoded Double = false
 insists decoded Late = false
 insists decoded (Refused x) = decoded
 
--- It is handed in. Where it is refused, one that does not decode gives way and is counted; only for one that decodes is the first position released before
--- its time, as at a flush, and the frame handed in once more.
+-- a frame that does not decode and is refused, or would be given the last of the 16 positions: so many waited before its push, so many after it
+abbrev pub yields : Bool → Keeping → ℕ → ℕ → Bool
+yields decoded Kept before after = not decoded && (ltb 15 after && ltb before after)
+yields decoded Double before after = false
+yields decoded Late before after = false
+yields decoded (Refused x) before after = not decoded
+
+abbrev pub givesWay : Trying → ℕ → Got → Pile → Bool
+givesWay try stream g p = yields (decodes try g) (pushFor try stream g p .answer) (length (p .merger .pending)) (length (pushFor try stream g p .next .pending))
+
+-- it is not handed in, and counted as refused
+abbrev pub letGo : Trying → ℕ → Got → Pile → Handed
+letGo try stream g p =
+    handed (record { merger = p .merger; shelf = p .shelf; answered = counted (Refused Positions) (p .answered); gone = p .gone }) [] (gaveWay stream (heldFor try g p) ∷ [])
+
+-- It is handed in. Where one that decodes is refused, the first position is released before its time, as at a flush, and the frame handed in once more.
+-- The last position is kept for frames that decode: otherwise frames that do not decode, of a stream that runs ahead, fill all 16, a frame that decodes has the
+-- first of them released, which lies ahead of it, and comes late itself.
 abbrev pub offered : Trying → ℕ → Got → Pile → Handed
 offered try stream g p =
     cond (insists (decodes try g) (pushFor try stream g p .answer))
-    (then (then (handed p [] (push stream (heldFor try g p) ∷ [])) (released Absent Absent true)) (offeredOnce try stream g))
-    (offeredOnce try stream g p)
+    (then (then (handed p [] (called (push stream (heldFor try g p)) ∷ [])) (released Absent Absent true)) (offeredOnce try stream g))
+    (cond (givesWay try stream g p) (letGo try stream g p) (offeredOnce try stream g p))
 
 -- frames one after the other
 unfoldable pub offeredAll : Trying → ℕ → List Got → Pile → Handed

@@ -7,13 +7,14 @@ use Prim.Native.Nat.{ℕ, zero, suc, _≤_}
 use lib.Dec.{leb}
 use lib.ListN.{length, take}
 use Rattle.merger_rules.specs.Merging.{releaseOf}
-use Rattle.merger_rules.specs.Scripts.{Call, push, release}
+use Rattle.merger_rules.specs.Scripts.{push, release}
 use Rattle.merger_rules.specs.declared.Clock.{Clock}
 use Rattle.merger_rules.specs.declared.Clock.the-variants.{Absent, At}
 use Rattle.merger_rules.specs.declared.Released.the-variants.{NothingReady}
 use Rattle.recorder_rules.specs.Makings.{Trying}
 use Rattle.sync_rules.specs.Sizes.{mostDibits}
 use Rattle.sync_rules.specs.State.{State, Input}
+use Rattle.merging_rules.specs.Piles.{Deed, called, gaveWay}
 use Rattle.merging_rules.specs.Turns.{walk, begun}
 
 -- where a stream is settled so far, a frame at the offset o may still come: not one below, and none of a stream that has ended
@@ -28,14 +29,16 @@ Further Absent (At d) = ⊥
 Further (At c) Absent = Unit {0}
 Further (At c) (At d) = c ≤ d
 
--- The calls cs keep what was promised, of the two streams a and b so far: no frame of a stream comes below what was called settled of it, and none once it was
+-- The deeds ds keep what was promised, of the two streams a and b so far: no frame of a stream comes below what was called settled of it, and none once it was
 -- called absent. A release as at a flush promises nothing.
-abbrev pub Promised : Clock → Clock → List Call → Type 0
+abbrev pub Promised : Clock → Clock → List Deed → Type 0
 Promised a b [] = Unit {0}
-Promised a b (push zero h ∷ cs) = Open a (h .figures .offset) × Promised a b cs
-Promised a b (push (suc s) h ∷ cs) = Open b (h .figures .offset) × Promised a b cs
-Promised a b (release c d true ∷ cs) = Promised a b cs
-Promised a b (release c d false ∷ cs) = Further a c × Further b d × Promised c d cs
+Promised a b (called (push zero h) ∷ ds) = Open a (h .figures .offset) × Promised a b ds
+Promised a b (called (push (suc s) h) ∷ ds) = Open b (h .figures .offset) × Promised a b ds
+Promised a b (called (release c d true) ∷ ds) = Promised a b ds
+Promised a b (called (release c d false) ∷ ds) = Further a c × Further b d × Promised c d ds
+Promised a b (gaveWay zero h ∷ ds) = Open a (h .figures .offset) × Promised a b ds
+Promised a b (gaveWay (suc s) h ∷ ds) = Open b (h .figures .offset) × Promised a b ds
 
 -- how far a recording is settled after n turns: up to its synchroniser's clock, and absent once it had no dibit left, or its synchroniser took no more
 abbrev pub settledAt : ℕ → List Input → State → Clock

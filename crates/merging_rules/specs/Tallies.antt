@@ -5,21 +5,28 @@ use mathlib.Core.Bool.{Bool, true, false, cond}
 use mathlib.Core.List.{List, [], _∷_}
 use Prim.Native.Nat.{ℕ, _+_}
 use Rattle.merger_rules.specs.Merging.{View, pushOf, releaseOf}
-use Rattle.merger_rules.specs.Scripts.{Call, push, release}
+use Rattle.merger_rules.specs.Scripts.{push, release}
 use Rattle.merger_rules.specs.declared.Keeping.{Keeping}
 use Rattle.merger_rules.specs.declared.Keeping.the-variants.{Kept, Double, Late, Refused}
 use Rattle.merger_rules.specs.declared.Released.{Released}
 use Rattle.merger_rules.specs.declared.Released.the-variants.{Frame, PassedOver, NothingReady}
 use Rattle.merging_shelf.specs.Slots.{countFreed}
-use Rattle.merging_rules.specs.Piles.{Pile}
+use Rattle.merging_rules.specs.Piles.{Deed, called, gaveWay, Pile}
 use Rattle.merging_rules.specs.Orders.{comesAgain}
 
--- the answers to the pushes of a script, but for those of frames that come again
-abbrev pub answersOf : List Call → View → List Keeping
+-- the answers to the pushes, but for those of frames that come again
+abbrev pub answersOf : List Deed → View → List Keeping
 answersOf [] v = []
-answersOf (push s h ∷ cs) v =
-    cond (comesAgain (h .check) (pushOf s h v .answer)) (answersOf cs (pushOf s h v .next)) (pushOf s h v .answer ∷ answersOf cs (pushOf s h v .next))
-answersOf (release a b flush ∷ cs) v = answersOf cs (releaseOf a b flush v .next)
+answersOf (called (push s h) ∷ ds) v =
+    cond (comesAgain (h .check) (pushOf s h v .answer)) (answersOf ds (pushOf s h v .next)) (pushOf s h v .answer ∷ answersOf ds (pushOf s h v .next))
+answersOf (called (release a b flush) ∷ ds) v = answersOf ds (releaseOf a b flush v .next)
+answersOf (gaveWay s h ∷ ds) v = answersOf ds v
+
+-- how many frames gave way
+abbrev pub waysGiven : List Deed → ℕ
+waysGiven [] = 0
+waysGiven (called c ∷ ds) = waysGiven ds
+waysGiven (gaveWay s h ∷ ds) = 1 + waysGiven ds
 
 unfoldable pub howOften : (Keeping → Bool) → List Keeping → ℕ
 howOften f [] = 0
@@ -43,17 +50,12 @@ isLate Double = false
 isLate Late = true
 isLate (Refused r) = false
 
-abbrev pub isRefused : Keeping → Bool
-isRefused Kept = false
-isRefused Double = false
-isRefused Late = false
-isRefused (Refused r) = true
-
--- how many frames the releases of a script took out whose answer is such a one
-abbrev pub takenOut : (Released → Bool) → List Call → View → ℕ
+-- how many frames the releases took out whose answer is such a one
+abbrev pub takenOut : (Released → Bool) → List Deed → View → ℕ
 takenOut f [] v = 0
-takenOut f (push s h ∷ cs) v = takenOut f cs (pushOf s h v .next)
-takenOut f (release a b flush ∷ cs) v = cond (f (releaseOf a b flush v .answer)) (countFreed (releaseOf a b flush v .freed)) 0 + takenOut f cs (releaseOf a b flush v .next)
+takenOut f (called (push s h) ∷ ds) v = takenOut f ds (pushOf s h v .next)
+takenOut f (called (release a b flush) ∷ ds) v = cond (f (releaseOf a b flush v .answer)) (countFreed (releaseOf a b flush v .freed)) 0 + takenOut f ds (releaseOf a b flush v .next)
+takenOut f (gaveWay s h ∷ ds) v = takenOut f ds v
 
 abbrev pub isFrame : Released → Bool
 isFrame (Frame r) = true
@@ -65,12 +67,13 @@ isPassedOver (Frame r) = false
 isPassedOver PassedOver = true
 isPassedOver NothingReady = false
 
--- what the calls cs, on the pile p, add to the counts: q has them then
-pub record CountsMore (cs : List Call) (p q : Pile) : Type 0 where
-  pub kept : q .answered .kept ≡ p .answered .kept + howOften isKept (answersOf cs (p .merger))
-  pub late : q .answered .late ≡ p .answered .late + howOften isLate (answersOf cs (p .merger))
-  pub double : q .answered .double ≡ p .answered .double + howOften isDouble (answersOf cs (p .merger))
-  pub refused : q .answered .refused ≡ p .answered .refused + howOften isRefused (answersOf cs (p .merger))
+-- what the deeds ds, on the pile p, add to the counts: q has them then
+pub record CountsMore (ds : List Deed) (p q : Pile) : Type 0 where
+  pub kept : q .answered .kept ≡ p .answered .kept + howOften isKept (answersOf ds (p .merger))
+  pub late : q .answered .late ≡ p .answered .late + howOften isLate (answersOf ds (p .merger))
+  pub double : q .answered .double ≡ p .answered .double + howOften isDouble (answersOf ds (p .merger))
+  -- a frame counts as refused where it gave way, and else never
+  pub refused : q .answered .refused ≡ p .answered .refused + waysGiven ds
   -- of each position that was handed on one frame is in the journal, and the other one, where there is one, gave way to it
-  pub handed-on : q .gone .released + q .gone .others ≡ p .gone .released + p .gone .others + takenOut isFrame cs (p .merger)
-  pub passed-over : q .gone .passed ≡ p .gone .passed + takenOut isPassedOver cs (p .merger)
+  pub handed-on : q .gone .released + q .gone .others ≡ p .gone .released + p .gone .others + takenOut isFrame ds (p .merger)
+  pub passed-over : q .gone .passed ≡ p .gone .passed + takenOut isPassedOver ds (p .merger)

@@ -8,7 +8,7 @@ ghost use Rattle.merging_rules.specs.Statements.{slotLeft, pushCounted, 
 use merger::Merger;
 use merging_shelf::Shelf;
 
-// Counts what the merger answered to the frames that were handed in: taken in, late, their place taken, or refused.
+// Counts what became of the frames: taken in, late, their place taken, or refused, as those are that give way.
 pub struct Answered {
     pub kept: u64,
     pub late: u64,
@@ -51,8 +51,9 @@ pub fn all_counted()
     ensures { λ _. ⌜ allCounted ⌝ }
 {}
 
-// Two whole recordings: all their frames are handed in, in their order; the merged journal holds those that the merger released, each with the envelope of the
-// stream that it names, in its stream's order and none twice; and every frame of both is in the journal or in exactly one count.
+// Two whole recordings: all their frames are handed in, in their order, but for those that do not decode and gave way; the merged journal holds those that the
+// merger released, each with the envelope of the stream that it names, in its stream's order and none twice; and every frame of both is in the journal or in
+// exactly one count.
 pub fn merged_rule()
     ensures { λ _. ⌜ mergedRule ⌝ }
 {}

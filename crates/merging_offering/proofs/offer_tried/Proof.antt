@@ -1,4 +1,4 @@
--- `offer_tried`: taken in or let go at once, or after a position was released before its time.
+-- `offer_tried`: handed in once, or once more after a position was released before its time, or let go.
 -- Assumes nothing.
 use mathlib.Core.Path.{sym, ap, ap₂, _∙_}
 use mathlib.Core.Bool.{Bool}
@@ -8,8 +8,9 @@ use Rattle.merger_rules.specs.declared.Keeping.{Keeping}
 use Rattle.merging_rules.specs.Accounts.{toldOf}
 use Rattle.merging_rules.specs.Piles.{Pile, insists}
 use Rattle.merging_rules.specs.Works.{pileOf, said}
+use Rattle.merging_rules.specs.declared.Work.{Work}
 use Rattle.sync_call_rules.specs.Calls.{Got}
-use Rattle.merging_offering.proofs.Offering.{told-once, offered-once, offered-twice}
+use Rattle.merging_offering.proofs.Offering.{told-once, gives-as, offered-once, offered-none, valid-none, told-none, offered-twice}
 use borrow.Author.Needs.{needs}
 use Rattle.merging_offering.proofs.offer_tried.Statement.{statement}
 use Rattle.merging_offering.proofs.offer_tried.Tie as tie
@@ -46,16 +47,37 @@ returns c =
 
 returns-2 : tie.Need-returns-2
 returns-2 c =
-    let test = c .before in
+    let gives = c .before .before in
+    let test = gives .before .before .before .before in
     let asked = test .before in
     let passes = asked .before in
     let first = passes .before in
-    let a = first .before .before .before .args in
+    let start = first .before .before .before in
+    let a = start .args in
     let g : Got = record { head = a .head; envelope = now (a .envelope) } in
     let s = first .offer-once .ensures in
+    let work = first .offer-once .result .work in
+    let none = sym (ap₂ (λ (b : Bool) (k : Keeping). insists b k) (passes .passes .ensures) (s .1 .0)) ∙ sym (asked .insisting .ensures) ∙ test .if1 .left in
+    let way = sym (gives-as (a .tried) (a .stream) g (a .w) work _ _ (start .pre .0) (s .0) (passes .passes .ensures) (s .1 .0) (s .1 .1 .0)) ∙ sym (gives .yielding .ensures) ∙ c .before .if2 .taken in
+    let e = c .let-go .ensures in
+    (valid-none (a .tried) (a .stream) g (a .w) _ (start .pre .0) e, (offered-none (a .tried) (a .stream) g (a .w) _ _ _ none way e, (omega (arith, ap (λ (z : Work). z .merger .n) e), told-none (a .tried) (a .stream) g (a .w) _ e)))
+
+returns-3 : tie.Need-returns-3
+returns-3 c =
+    let gives = c .before in
+    let test = gives .before .before .before .before in
+    let asked = test .before in
+    let passes = asked .before in
+    let first = passes .before in
+    let start = first .before .before .before in
+    let a = start .args in
+    let g : Got = record { head = a .head; envelope = now (a .envelope) } in
+    let s = first .offer-once .ensures in
+    let work = first .offer-once .result .work in
     let p = s .1 .1 .0 in
     let once = sym (ap₂ (λ (b : Bool) (k : Keeping). insists b k) (passes .passes .ensures) (s .1 .0)) ∙ sym (asked .insisting .ensures) ∙ test .if1 .left in
-    (s .0, (offered-once (a .tried) (a .stream) g (a .w) _ _ (first .offer-once .result .work) once p, (omega (arith, s .1 .1 .1), told-once (said (a .tried)) (a .stream) g (pileOf (a .w)) (pileOf (first .offer-once .result .work)) p)))
+    let way = sym (gives-as (a .tried) (a .stream) g (a .w) work _ _ (start .pre .0) (s .0) (passes .passes .ensures) (s .1 .0) p) ∙ sym (gives .yielding .ensures) ∙ c .if2 .left in
+    (s .0, (offered-once (a .tried) (a .stream) g (a .w) _ _ work once way p, (omega (arith, s .1 .1 .1), told-once (said (a .tried)) (a .stream) g (pileOf (a .w)) (pileOf work) p)))
 
 pub offer-tried-spec : {M : Type 1} → statement M
 offer-tried-spec =
@@ -68,4 +90,7 @@ offer-tried-spec =
     offer-once-requires-2
     (λ c. search needs)
     returns
-    returns-2)
+    (λ c κs. search needs)
+    (λ c κs. search needs)
+    returns-2
+    returns-3)
