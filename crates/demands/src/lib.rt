@@ -56,8 +56,11 @@ pub fn recording()
     ensures { λ _. ⌜ Recording ⌝ }
 {
     recorder_rules::makings_sequential();
+    recorder_rules::step_rules();
     recorder_rules::steps_make();
     recorder_rules::cut_anywhere();
     recorder_rules::whole_input();
     recorder_rules::journal_rule();
+    merge_recorder_rules::merge_records();
+    merging_rules::merged_rule();
 }
