@@ -256,8 +256,8 @@ impl Merging {
 /// not imitated here, since no pair that is made comes near it.
 fn end_at_refusal_9(merger: &Merger, frame: &Frame) {
     let late = |last: u64| frame.bit_offset + 191 < last + 384;
-    if merger.positions() >= 16 && !merger.last_released().map_or(false, late) && !merger.has_key_near(frame.bit_offset) {
-        eprintln!("merge_pairs: 16 positions wait and none is of the frame at {}: not to be compared", frame.bit_offset);
+    if merger.positions() >= 15 && !merger.last_released().map_or(false, late) && !merger.has_key_near(frame.bit_offset) {
+        eprintln!("merge_pairs: 15 positions wait and none is of the frame at {}: not to be compared", frame.bit_offset);
         std::process::exit(3);
     }
 }

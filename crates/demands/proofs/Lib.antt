@@ -8,3 +8,4 @@ pub mod Payloads
 pub mod Locks
 pub mod Searching
 pub mod Carried
+pub mod RefusedMerges

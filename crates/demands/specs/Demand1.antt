@@ -28,6 +28,9 @@ use Rattle.journal_rules.specs.declared.Body.the-variants.{Frame, Gap}
 use Rattle.journal_rules.specs.declared.Entry.{Entry}
 use Rattle.journal_rules.specs.declared.Reading.{Reading}
 use Rattle.journal_rules.specs.declared.Reading.the-variants as reading
+use Rattle.merge_recorder_rules.specs.Steps.{bothOf, mergeNeed, MergeSteppedBy, MergeFlushedBy}
+use Rattle.merge_recorder_rules.specs.declared.MergeRecorder.{MergeRecorder}
+use Rattle.merge_recorder_rules.specs.declared.MergeStepped.{MergeStepped}
 use Rattle.merger_rules.specs.Merging.{isLate, isNear, heldOf, pushOf}
 use Rattle.merger.specs.States.{viewOf, PushGave}
 use Rattle.merger.specs.declared.AfterPush.{AfterPush}
@@ -37,7 +40,7 @@ use Rattle.merger_rules.specs.declared.Position.{Position}
 use Rattle.merger_rules.specs.declared.Keeping.{Keeping}
 use Rattle.merger_rules.specs.declared.Keeping.the-variants as keeping
 use Rattle.protected_rules.specs.Table.{Admitted, admits}
-use Rattle.recorder_rules.specs.Makings.{Making, Sequential}
+use Rattle.recorder_rules.specs.Makings.{Making, Sequential, Trying}
 use Rattle.recorder_rules.specs.Steps.{dibitsOf, SteppedBy}
 use Rattle.recorder_rules.specs.declared.Recorder.{Recorder}
 use Rattle.recorder_rules.specs.declared.Stepped.{Stepped}
@@ -268,6 +271,17 @@ pub record StepRefuses (p : Making) (r : Recorder) (inputs : List Input) (out : 
   -- where they sent frames, nothing is refused
   pub sends : 0 < length (run (take (a .used) inputs) (view (r .sync)) .sent) → numberInPush (a .answer) ≡ 0
 
+-- a call of the recorder of two streams that did nothing: both synchronisers, the merger, what waits and the counts are as they were, and nothing is written
+pub record Unmerged (r : MergeRecorder) (out : List ℕ) (a : MergeStepped) (out′ : List ℕ) : Type 0 where
+  pub nothing : (a .used ≡ 0) × (a .size ≡ 0)
+  pub state : bothOf (a .next) ≡ bothOf r
+  pub earlier : a .next .earlier ≡ r .earlier
+  pub lent : out′ ≡ out
+
+-- the recorder of two streams: 2, where the lent memory is below what one turn may need
+abbrev pub MergeStepRefuses : MergeRecorder → List ℕ → MergeStepped → List ℕ → Type 0
+MergeStepRefuses r out a out′ = Refuses (smallMemory mergeNeed out ∷ []) (numberInPush (a .answer)) (Unmerged r out a out′)
+
 -- the merger: 7, 8, late, 9. Late is an answer and no refusal, and nothing behind it is tested
 abbrev pub late : Clock → ℕ → Test
 late last offset = test 0 (isLate last offset)
@@ -335,6 +349,10 @@ pub record Demand1 : Type 0 where
   -- recorder_lines::step (the lines of a listing or of the slips) and recorder::step (records or speech), whatever they make of the frames
   pub step : (p : Making) → Sequential p → (r : Recorder) (bytes : List ℕ) (from : ℕ) (out : List ℕ) (a : Stepped) (out′ : List ℕ)
       → SteppedBy p out out′ (dibitsOf bytes from) r a → StepRefuses p r (dibitsOf bytes from) out a out′
+  -- merge_recorder
+  pub merge-step : (try : Trying) (out : List ℕ) (primary : List Input) (over : Bool) (alternate : List Input) (ended : Bool) (r : MergeRecorder) (a : MergeStepped) (out′ : List ℕ)
+      → MergeSteppedBy try out out′ primary over alternate ended r a → MergeStepRefuses r out a out′
+  pub merge-flush : (out : List ℕ) (r : MergeRecorder) (a : MergeStepped) (out′ : List ℕ) → MergeFlushedBy out out′ r a → MergeStepRefuses r out a out′
   -- merger
   pub merger-push : (m : Merger) (stream : ℕ) (figures : Head) (number : ℕ) (check : Bool) (r : AfterPush)
       → PushGave m (pushOf stream (heldOf figures number check) (viewOf m)) r → MergerRefuses m stream (figures .offset) r

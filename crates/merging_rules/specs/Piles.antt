@@ -177,9 +177,9 @@ abbrev pub letGo : Trying → ℕ → Got → Pile → Handed
 letGo try stream g p =
     handed (record { merger = p .merger; shelf = p .shelf; answered = counted (Refused Positions) (p .answered); gone = p .gone }) [] (gaveWay stream (heldFor try g p) ∷ [])
 
--- It is handed in. Where one that decodes is refused, the first position is released before its time, as at a flush, and the frame handed in once more.
--- The last position is kept for frames that decode: otherwise frames that do not decode, of a stream that runs ahead, fill all 16, a frame that decodes has the
--- first of them released, which lies ahead of it, and comes late itself.
+-- It is handed in. Where one that decodes is refused, the first position is released before its time, as at a flush, and the frame handed in once more. One that
+-- does not decode gives way: the last position is kept for frames that decode. Otherwise those of a stream that runs ahead would fill all 16 without one that
+-- decodes among them; for a frame that decodes the first of them, which lies ahead of it, would be released, and the frame itself come late.
 abbrev pub offered : Trying → ℕ → Got → Pile → Handed
 offered try stream g p =
     cond (insists (decodes try g) (pushFor try stream g p .answer))

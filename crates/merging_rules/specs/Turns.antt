@@ -1,5 +1,5 @@
--- Two recordings of the same time, dibit by dibit: the primary's is pushed, then the alternate's; every frame goes into the merger with the decoder's yes or no, or gives way;
--- then all that is ready is released with both settled offsets. A recording that has ended is absent.
+-- Two recordings of the same time, dibit by dibit: the primary's is pushed, then the alternate's; every frame goes into the merger with the decoder's yes or no,
+-- or gives way; then all that is ready is released with both settled offsets. A recording that has ended is absent.
 -- Assumes nothing.
 use mathlib.Core.Bool.{true, false}
 use mathlib.Core.List.{List, [], _++_}

@@ -12,6 +12,7 @@ use Rattle.demands.specs.Demand1.{soft}
 use Rattle.demands.proofs.RefusedSizes as sizes
 use Rattle.demands.proofs.RefusedPushes.{push-refuses, feed-refuses}
 use Rattle.demands.proofs.RefusedSteps.{step-refuses}
+use Rattle.demands.proofs.RefusedMerges.{merge-step, merge-flush}
 use Rattle.demands.proofs.RefusedFrames.{merger-push, write, read}
 use Rattle.demands.proofs.demand_one.Statement.{statement}
 use Rattle.demands.proofs.demand_one.Tie as tie
@@ -35,6 +36,8 @@ returns c =
       feed-soft = λ s dibits reliable. feed-refuses s (softly dibits reliable);
       feed-packed = λ s bytes start. feed-refuses s (hardly (drop start (unpacked bytes)));
       step = λ p q r bytes from. step-refuses p q r (dibitsOf bytes from);
+      merge-step = merge-step;
+      merge-flush = merge-flush;
       merger-push = merger-push;
       write = write;
       read = read;
