@@ -252,8 +252,8 @@ impl Merging {
     }
 }
 
-/// The original keeps any number of positions. Ours refuses the 17th (refusal 9), and `merge` then releases the first before its time: that is
-/// not imitated here, since no pair that is made comes near it.
+/// The original keeps any number of positions. Ours refuses the 17th (refusal 9), and `merge` then releases the first before its time for a frame that
+/// decodes; one that does not decode leaves the 16th free already. That is not imitated here, since no pair that is made comes near it.
 fn end_at_refusal_9(merger: &Merger, frame: &Frame) {
     let late = |last: u64| frame.bit_offset + 191 < last + 384;
     if merger.positions() >= 15 && !merger.last_released().map_or(false, late) && !merger.has_key_near(frame.bit_offset) {
