@@ -1,5 +1,8 @@
 // What every other crate uses: the numbered refusals, small steps on numbers and bytes, and the sizes that more than one crate speaks of.
 // The definitions are in specs/, their laws in proofs/.
+
+#![tactic(auto)]
+
 ghost use Rattle.std.specs.Prelude.{◌≡◌};
 ghost use Rattle.bits.specs.Refusals.{number_of};
 
@@ -12,7 +15,7 @@ pub use numbers::{amount, byte, bytes_of, lesser, parity, wide, wide16, wide32};
 pub use sizes::{FRAME_BITS, MOST_OFFSET};
 
 // The refusals of documents 01 (1 to 12) and 02 (13 to 19), in the order of their numbers.
-#[derive(Drop)]
+#[derive(Clone, Copy)]
 pub enum Refusal {
     Dibit,
     FrameRoom,
@@ -36,7 +39,7 @@ pub enum Refusal {
 }
 
 // The answer of a call that writes into lent memory and has nothing else to say.
-#[derive(Drop)]
+#[derive(Clone, Copy)]
 pub enum Writing {
     Written,
     Refused(Refusal),

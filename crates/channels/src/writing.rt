@@ -3,12 +3,14 @@ ghost use Rattle.std.specs.Prelude.{◌≡◌, true, ◌+◌, ◌^◌, ◌≤◌
 ghost use Rattle.channels.specs.Sending.{none_sent, PutBy};
 ghost use Rattle.channels_steps.specs.Progresses.{StandsAt};
 
-use channels_steps::{Progress, advanced, call_write, taken_of};
+use channels_steps::{Desk, Progress, advanced, call_write, fail, taken_of};
+use std::io::Write;
+use std::rt::Clock;
 
 // Writes the lent bytes, call by call and each from where the last one ended, until all are taken, a call takes none or one fails; then nothing more is
 // written. Without a byte it makes no call. It says nothing. A proved loop has to end, and nothing says that a call has not to be made again: the loop
 // counts its turns down, from a number that no run uses up.
-pub fn send(fd: i32, bytes: &[u8]) -> Progress
+pub fn send<W: Write, C: Clock>(to: &mut W, bytes: &[u8], clock: &C) -> Progress
     ensures { StandsAt (length bytes.now) result }
 {
     if bytes.len() == 0 {
@@ -17,7 +19,7 @@ pub fn send(fd: i32, bytes: &[u8]) -> Progress
     let mut done: usize = 0;
     let mut turns = u64::MAX;
     while turns > 0 {
-        let call = call_write(fd, bytes, done);
+        let call = call_write(to, bytes, done, clock);
         let stands = advanced(bytes.len(), done, call);
         let Progress::Left(d) = stands else {
             return stands;
@@ -28,41 +30,50 @@ pub fn send(fd: i32, bytes: &[u8]) -> Progress
     Progress::Left(done)
 }
 
-// Says on standard error why a writing has stopped, if it has: right after it, while the system still holds the reason.
-fn say_stopped(stands: Progress) {
-    if let Progress::Failed(_) = stands {
-        os::fail(b"cannot write");
+// Says on standard error why a writing has stopped, if it has.
+fn say_stopped<E: Write, C: Clock>(stands: Progress, errors: &mut E, clock: &C) {
+    if let Progress::Failed(_, reason) = stands {
+        fail(b"cannot write", reason, errors);
     }
     if let Progress::Stuck(_) = stands {
-        send(2, b"cannot write: nothing was taken\n");
+        send(errors, b"cannot write: nothing was taken\n", clock);
     }
 }
 
 // Writes the lent bytes and gives how many were taken. Where a call fails or takes nothing it says `cannot write` and the reason on standard error, and writes
 // nothing more.
-fn write_counted(fd: i32, bytes: &[u8]) -> usize
+fn write_counted<W: Write, E: Write, C: Clock>(bytes: &[u8], desk: &mut Desk<W, E, C>) -> usize
     ensures { result ≤ length bytes.now }
 {
-    let stands = send(fd, bytes);
-    say_stopped(stands);
+    let stands = send(&mut desk.out, bytes, &desk.clock);
+    say_stopped(stands, &mut desk.errors, &desk.clock);
     taken_of(stands)
 }
 
-// Writes all of the lent bytes, or says why not. It gives a yes exactly where as many bytes were taken as there are.
-pub fn write_whole(fd: i32, bytes: &[u8]) -> bool
+// Writes all of the lent bytes to standard output, or says why not. It gives a yes exactly where as many bytes were taken as there are.
+pub fn write_whole<W: Write, E: Write, C: Clock>(bytes: &[u8], desk: &mut Desk<W, E, C>) -> bool
     ensures { length bytes.now ≡ 0 → result ≡ true }
 {
-    write_counted(fd, bytes) == bytes.len()
+    write_counted(bytes, desk) == bytes.len()
 }
 
-// Says how many bytes were taken of all that was handed to an open file, and whether all were.
-#[derive(Drop)]
+// Writes all of the lent bytes to standard error, or says there why not. It gives a yes exactly where as many bytes were taken as there are.
+pub fn complain<E: Write, C: Clock>(bytes: &[u8], errors: &mut E, clock: &C) -> bool
+    ensures { length bytes.now ≡ 0 → result ≡ true }
+{
+    let stands = send(errors, bytes, clock);
+    say_stopped(stands, errors, clock);
+    taken_of(stands) == bytes.len()
+}
+
+// Says how many bytes were taken of all that was handed to a stream, and whether all were.
+#[derive(Clone, Copy)]
 pub struct Sent {
     pub bytes: u64,
     pub whole: bool,
 }
 
-// Says that nothing was handed to a file yet.
+// Says that nothing was handed to a stream yet.
 pub fn nothing_sent() -> Sent
     ensures { result ≡ none_sent }
 {
@@ -72,8 +83,13 @@ pub fn nothing_sent() -> Sent
     }
 }
 
-// Writes the first n of the lent bytes behind what was sent before, or says why not; behind a hole it writes nothing.
-pub fn put(sent: Sent, fd: i32, bytes: &[u8], n: usize) -> Sent
+// Writes the first n of the lent bytes to standard output behind what was sent before, or says why not; behind a hole it writes nothing.
+pub fn put<W: Write, E: Write, C: Clock>(
+    sent: Sent,
+    bytes: &[u8],
+    n: usize,
+    desk: &mut Desk<W, E, C>,
+) -> Sent
     requires fact_1 { n ≤ length bytes.now }
     requires fact_2 { sent.bytes + n < 2 ^ 64 }
     ensures { PutBy n sent result }
@@ -81,7 +97,7 @@ pub fn put(sent: Sent, fd: i32, bytes: &[u8], n: usize) -> Sent
     if !sent.whole {
         return sent;
     }
-    let taken = write_counted(fd, &bytes[..n]);
+    let taken = write_counted(&bytes[..n], desk);
     Sent {
         bytes: sent.bytes + taken as u64,
         whole: taken == n,

@@ -13,16 +13,16 @@ takes_stands : (size done n : ℕ) (p : Progress) → done < size → Takes size
 takes_stands size done n (Left d) h t = omega arith
 takes_stands size done n (Whole d) h t = omega arith
 takes_stands size done n (Stuck d) h t = omega arith
-takes_stands size done n (NotWritten d) h t = absurd t
+takes_stands size done n (NotWritten d reason) h t = absurd t
 
 pub advances_stands : (size done : ℕ) (call : Call) (p : Progress) → done < size → Advances size done call p → StandsAt size p
 advances_stands size done (Moved n) p h a = takes_stands size done n p h a
 advances_stands size done Again p h a = subst (StandsAt size) (sym a) h
 advances_stands size done Wait p h a = subst (StandsAt size) (sym a) h
-advances_stands size done Failed p h a = subst (StandsAt size) (sym a) h
+advances_stands size done (Failed reason) p h a = subst (StandsAt size) (sym a) h
 
 pub stands_within : (size : ℕ) (p : Progress) → StandsAt size p → taken_of p ≤ size
 stands_within size (Left d) h = omega arith
 stands_within size (Whole d) h = omega arith
 stands_within size (Stuck d) h = omega arith
-stands_within size (NotWritten d) h = omega arith
+stands_within size (NotWritten d reason) h = omega arith

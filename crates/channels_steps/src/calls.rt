@@ -1,66 +1,66 @@
-// One call of the system's read or write, and what it did.
+// One call of a stream's read or write, and what it did.
 ghost use Rattle.std.specs.Prelude.{◌≤◌, ◌-◌, length};
 ghost use Rattle.channels_steps.specs.Told.{FailsFor, Told, Within};
 
 use crate::pausing::pause;
+use std::io::{Error, ErrorKind, Read, Result, Write};
+use std::rt::Clock;
 
-// What one call did: it moved so many bytes; it was interrupted and is to be made again; it would have had to wait; it failed, and the system still holds
-// the reason.
-#[derive(Drop)]
+// What one call did: it moved so many bytes; it was interrupted and is to be made again; it would have had to wait; it failed, for this reason.
+#[derive(Clone, Copy)]
 pub enum Call {
     Moved(usize),
     Again,
     Wait,
-    Failed,
+    Failed(Error),
 }
 
-// Tells what a call that failed is to be taken for, by the reason that the system holds after it.
-fn failure(reason: i32) -> Call
+// Tells what a call that failed is to be taken for, by the reason that it gave.
+fn failure(reason: Error) -> Call
     ensures { FailsFor reason result }
 {
-    if reason == libc::EINTR {
+    let kind = reason.kind();
+    if kind == ErrorKind::Interrupted {
         return Call::Again;
     }
-    if reason == libc::EAGAIN {
+    if kind == ErrorKind::WouldBlock {
         return Call::Wait;
     }
-    Call::Failed
+    Call::Failed(reason)
 }
 
-// Tells what a call did, by its answer and the reason that the system holds after it.
-fn told(answer: isize, reason: i32) -> Call
-    ensures { Told answer reason result }
+// Tells what a call did, by its answer.
+fn told(answer: Result<usize>) -> Call
+    ensures { Told answer result }
 {
-    if answer < 0 {
-        return failure(reason);
+    match answer {
+        Ok(moved) => Call::Moved(moved),
+        Err(reason) => failure(reason),
     }
-    Call::Moved(answer as usize)
 }
 
-// Waits a little where a call would have had to wait. Otherwise it does nothing, so that the reason of a failure can still be asked for.
-fn wait_after(call: Call) {
+// Waits a little where a call would have had to wait.
+fn wait_after<C: Clock>(call: Call, clock: &C) {
     if let Call::Wait = call {
-        pause();
+        pause(clock);
     }
 }
 
 // Reads once into lent memory.
-pub fn call_read(fd: i32, buf: &mut [u8]) -> Call
+pub fn call_read<R: Read, C: Clock>(from: &mut R, buf: &mut [u8], clock: &C) -> Call
     ensures { Within (length buf.new) result }
 {
-    let answer = libc::read(fd, &mut *buf);
-    let call = told(answer, os::errno());
-    wait_after(call);
+    let call = told(from.read(&mut *buf));
+    wait_after(call, clock);
     call
 }
 
 // Writes once, of the lent bytes those from index `from` on.
-pub fn call_write(fd: i32, bytes: &[u8], from: usize) -> Call
+pub fn call_write<W: Write, C: Clock>(to: &mut W, bytes: &[u8], from: usize, clock: &C) -> Call
     requires { from ≤ length bytes.now }
     ensures { Within (length bytes.now - from) result }
 {
-    let answer = libc::write(fd, &bytes[from..]);
-    let call = told(answer, os::errno());
-    wait_after(call);
+    let call = told(to.write(&bytes[from..]));
+    wait_after(call, clock);
     call
 }

@@ -4,15 +4,15 @@ ghost use Rattle.channels_steps.specs.Told.{Within};
 ghost use Rattle.channels_steps.specs.Progresses.{Advances, taken_of};
 
 use crate::calls::Call;
+use std::io::Error;
 
-// Where a writing stands, with the bytes that were taken so far: some are left; all were taken; the last call took none; it failed, and the system still
-// holds the reason.
-#[derive(Drop)]
+// Where a writing stands, with the bytes that were taken so far: some are left; all were taken; the last call took none; it failed, for this reason.
+#[derive(Clone, Copy)]
 pub enum Progress {
     Left(usize),
     Whole(usize),
     Stuck(usize),
-    Failed(usize),
+    Failed(usize, Error),
 }
 
 // Tells where a writing of `size` bytes, of which `done` were taken, stands after a call.
@@ -33,7 +33,7 @@ pub fn advanced(size: usize, done: usize, call: Call) -> Progress
         }
         Call::Again => Progress::Left(done),
         Call::Wait => Progress::Left(done),
-        Call::Failed => Progress::Failed(done),
+        Call::Failed(reason) => Progress::Failed(done, reason),
     }
 }
 
@@ -45,6 +45,6 @@ pub fn taken_of(stands: Progress) -> usize
         Progress::Left(n) => n,
         Progress::Whole(n) => n,
         Progress::Stuck(n) => n,
-        Progress::Failed(n) => n,
+        Progress::Failed(n, _) => n,
     }
 }

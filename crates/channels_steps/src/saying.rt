@@ -2,6 +2,10 @@
 ghost use Rattle.std.specs.Prelude.{◌≤◌, length};
 ghost use Rattle.io.specs.Counts.{IsPrefixLen};
 
+use std::fs;
+use std::io::{Cursor, Error, Result, Write};
+use std::rt::Files;
+
 // Lays the bytes into lent memory from index `from` on, as many as find room, and gives the index behind the last.
 fn lay(bytes: &[u8], from: usize, room: &mut [u8]) -> usize
     requires { from ≤ length room.old }
@@ -20,27 +24,63 @@ fn lay(bytes: &[u8], from: usize, room: &mut [u8]) -> usize
     at
 }
 
-// Says `cannot read NAME: REASON`, right after what has that name could not be opened or read: the reason is the one that the system still holds. The text
-// is put together first, since a write could change the reason; a name that is longer than any path is cut.
-pub fn unreadable(name: &[u8]) {
+// Gives how many bytes of an error's text say the system's reason: behind it stands the reason's number, in parentheses.
+fn reason_size(reason: Error, text: &[u8]) -> usize
+    ensures { result ≤ length text.now }
+{
+    if reason.raw_os_error().is_none() {
+        return text.len();
+    }
+    for (i, byte) in text.iter().enumerate() {
+        if *byte == b'(' && 0 < i {
+            return i - 1;
+        }
+    }
+    text.len()
+}
+
+// Writes the text of a reason, as the system has it, and lays down what it comes to: nothing can be said of a write that fails here.
+fn say_reason<E: Write>(reason: Error, errors: &mut E) {
+    let mut text = [0u8; 320];
+    let mut cursor = Cursor::new(&mut text[..]);
+    let _ = write!(cursor, "{reason}");
+    let written = cursor.position();
+    if written > 320 {
+        return;
+    }
+    let all = &text[..written as usize];
+    let size = reason_size(reason, all);
+    let _ = errors.write_all(&all[..size]);
+}
+
+// Says on standard error what failed, a colon and the reason.
+pub fn fail<E: Write>(what: &[u8], reason: Error, errors: &mut E) {
+    let _ = errors.write_all(what);
+    let _ = errors.write_all(b": ");
+    say_reason(reason, errors);
+    let _ = errors.write_all(b"\n");
+}
+
+// Says `cannot read NAME: REASON`, of what has that name and could not be opened or read; a name that is longer than any path is cut.
+pub fn unreadable<E: Write>(name: &[u8], reason: Error, errors: &mut E) {
     let mut text = io::buffer();
     let begun = lay(b"cannot read ", 0, &mut text);
     let end = lay(name, begun, &mut text);
-    os::fail(&text[..end]);
+    fail(&text[..end], reason, errors);
 }
 
-// Opens the file of that name for reading and gives its descriptor; where that fails it says `cannot read NAME: REASON` and gives a negative number.
-pub fn open(name: &[u8]) -> i32 {
-    let fd = os::open_read(name);
-    if fd < 0 {
-        unreadable(name);
+// Opens the file of that name for reading; where that fails it says `cannot read NAME: REASON` and gives the reason.
+pub fn open<F: Files, E: Write>(files: &F, name: &str, errors: &mut E) -> Result<F::File> {
+    let opened = fs::open(files, name);
+    if let Err(reason) = &opened {
+        unreadable(name.as_bytes(), *reason, errors);
     }
-    fd
+    opened
 }
 
 // Says on standard error how a program is called: `usage: ` and the text.
-pub fn usage(text: &[u8]) {
-    io::write_all(2, b"usage: ");
-    io::write_all(2, text);
-    io::write_all(2, b"\n");
+pub fn usage<E: Write>(text: &[u8], errors: &mut E) {
+    let _ = errors.write_all(b"usage: ");
+    let _ = errors.write_all(text);
+    let _ = errors.write_all(b"\n");
 }

@@ -1,4 +1,7 @@
 // CRC-16 a byte at a time. What it means is defined in crate `coding_rules` (specs/Crc.antt).
+
+#![tactic(auto)]
+
 ghost use Rattle.std.specs.Prelude.{◌≡◌, ◌-◌};
 ghost use Rattle.bits.specs.Bit.{digit};
 ghost use Rattle.coding_rules.specs.Crc.{crc_run, crc_of};

@@ -1,5 +1,8 @@
 // The markers: what they are (specs/Markers.antt), and the same as code has it. Crate `coding` passes them on; the synchroniser, which needs nothing else of
 // the coding, names this crate.
+
+#![tactic(auto)]
+
 ghost use Rattle.std.specs.Prelude.{◌≡◌};
 ghost use Rattle.coding_markers.specs.Markers.{the_markers};
 

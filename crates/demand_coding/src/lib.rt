@@ -1,5 +1,8 @@
 // Demand 1 as the contract of the calls themselves: each function makes one public call of `coding` or `tail` with what it is given and hands on its
 // answer, so what it promises is what that call answers and leaves in lent memory. The contracts are in crates/demands/specs/Demand1.antt.
+
+#![tactic(auto)]
+
 ghost use Rattle.std.specs.Prelude.{[]};
 ghost use Rattle.demands.specs.Demand1.{ScramblingRefuses, TailRefuses, WordRefuses, MakingRefuses};
 

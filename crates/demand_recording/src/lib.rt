@@ -1,5 +1,8 @@
 // Demand 1 as the contract of the call itself: the function makes one step of a recording that needs the decoder, with what it is given, and hands on its
 // answer, so what it promises is what that call answers and leaves in lent memory. The contract is in crates/demands/specs/Demand1.antt.
+
+#![tactic(auto)]
+
 ghost use Rattle.demands.specs.Demand1.{StepRefuses};
 ghost use Rattle.recorder_asks.specs.Asks.{making_of};
 ghost use Rattle.recorder_rules.specs.Steps.{ValidRecorder, dibits_of};

@@ -1,5 +1,8 @@
 // Demands 1 and 2 of the calls of the voice frame themselves: each function makes public calls with what it is given and promises what they answer
 // and leave in lent memory. The contracts are in crates/demands/specs, Demand1.antt and Demand2.antt.
+
+#![tactic(auto)]
+
 ghost use Rattle.std.specs.Prelude.{true, ◌≡◌};
 ghost use Rattle.protected_rules.specs.Table.{Admitted};
 ghost use Rattle.voice_rules.specs.Hard.{decoded_word};

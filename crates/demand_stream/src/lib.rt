@@ -1,6 +1,9 @@
 // Demand 1 as the contract of the calls themselves: each function makes one public call of the synchroniser, a recording, the merger or the journal
 // with what it is given and hands on its answer, so what it promises is what that call answers and leaves in lent memory. The contracts are in
 // crates/demands/specs/Demand1.antt.
+
+#![tactic(auto)]
+
 ghost use Rattle.std.specs.Prelude.{drop};
 ghost use Rattle.merger.specs.States.{ValidMerger};
 ghost use Rattle.recorder_lines.specs.Wants.{making_of};

@@ -1,4 +1,7 @@
 // What is certain: each statement below is the promise of a function that does nothing but name what it rests on. A reader of the whole project starts here.
+
+#![tactic(auto)]
+
 ghost use Rattle.bits.specs.Alls.{All};
 ghost use Rattle.demands.specs.Demand1.{Demand1};
 ghost use Rattle.demands.specs.Demand2.{Demand2};

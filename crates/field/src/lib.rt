@@ -1,6 +1,9 @@
 // GF(256) over 0x11d: product, quotient and powers of 2, by two constant tables. The definitions, by polynomials, are in crate `field_rules`.
 // A constant is stored anew at each use. So each call has a form `.._by` to which its caller lends the tables: a caller with many
 // products makes them once. Both forms promise the same.
+
+#![tactic(auto)]
+
 ghost use Rattle.std.specs.Prelude.{◌≡◌, ◌<◌, ◌≤◌};
 ghost use Rattle.field_rules.specs.Field.{product, quotient, power, Log};
 ghost use Rattle.field.specs.Lent.{Powers, Logs};

@@ -1,4 +1,7 @@
 // Says of a frame what the hard decoder answers, as the journal and the programs need it (specs/Outcomes.antt).
+
+#![tactic(auto)]
+
 ghost use Rattle.std.specs.Prelude.{◌≡◌};
 ghost use Rattle.frame_outcomes.specs.Outcomes.{tried_of, FairOutcomes};
 

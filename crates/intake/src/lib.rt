@@ -2,6 +2,9 @@
 // read. A cursor goes from call to call by value; the piece lies at the front of lent memory.
 //
 // specs/Pieces.antt says what a cursor is and what a read does to it, specs/Heard.antt that the dibits handed to a recorder are those of the bytes read.
+
+#![tactic(auto)]
+
 ghost use Rattle.std.specs.Prelude.{◌≡◌, true, ◌+◌, ◌*◌, ◌-◌, ◌^◌, ◌≤◌, ◌<◌, min, length};
 ghost use Rattle.channels.specs.Moving.{size_of};
 ghost use Rattle.intake.specs.Heard.{heard_whole};
@@ -12,7 +15,7 @@ use sync_inputs::Push;
 
 // Whether a stream goes on; has ended with its file; is full, since the synchroniser has refused a dibit; or broke off: a read or a write has failed, and
 // nothing may be written any more.
-#[derive(Drop)]
+#[derive(Clone, Copy)]
 pub enum Going {
     On,
     Ended,
@@ -24,7 +27,7 @@ pub enum Going {
 pub const MOST_TURNS: u64 = 4398046511104;
 
 // How many bytes the piece has, how many of its dibits are used, how many bytes were read in all, and whether the stream goes on.
-#[derive(Drop)]
+#[derive(Clone, Copy)]
 pub struct Cursor {
     pub size: usize,
     pub from: usize,

@@ -1,5 +1,8 @@
 // The rule for the gaps between frames, which is defined in crate `journal_rules`. Crate `journal` passes it on; a listing, which needs nothing else of the
 // journal, names this crate.
+
+#![tactic(auto)]
+
 ghost use Rattle.std.specs.Prelude.{◌≡◌};
 ghost use Rattle.journal_rules.specs.Gaps.{gap_to};
 

@@ -1,4 +1,7 @@
 // Reads a record of 64 bytes, as crate `journal_rules` defines what it says (specs/Reading.antt).
+
+#![tactic(auto)]
+
 ghost use Rattle.std.specs.Prelude.{◌≡◌, ◌+◌, ◌≤◌, length, take, drop};
 ghost use Rattle.bits.specs.BigEndian.{value_of};
 ghost use Rattle.journal_rules.specs.Reading.{all_zero, outcome_at, read_frame, read_gap, read_of};

@@ -1,5 +1,8 @@
 // Writes an entry's record, 64 bytes, as crate `journal_rules` defines it (specs/Record.antt). The tests stand apart from the writing: `write_frame` and
 // `write_gap` test, `fill_frame` and `fill_gap` write.
+
+#![tactic(auto)]
+
 ghost use Rattle.std.specs.Prelude.{◌≡◌, [], ◌++◌, ◌+◌, ◌≤◌, length, take, drop};
 ghost use Rattle.journal_rules.specs.Record.{Wrote, entry_at, record_of, bit_of, outcome_number, may_correct};
 

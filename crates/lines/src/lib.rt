@@ -2,6 +2,9 @@
 // listing.rt makes the lines of a listing, slipping.rt those of the slips, speaking.rt that of a decoded frame, telling.rt what goes to standard error.
 // What each line says is defined in crate `lines_rules`; those of a journal's records are made in `lines_records`. Crate `texts` puts text into a line,
 // `texts_printing` prints it.
+
+#![tactic(auto)]
+
 mod listing;
 mod slipping;
 mod speaking;

@@ -1,5 +1,8 @@
 // Makes the line of the gap before a frame, for a listing. Crate `lines_records` passes it on.
 // What the line says is defined in crate `lines_rules`, where the gap lies in `journal_rules`.
+
+#![tactic(auto)]
+
 ghost use Rattle.std.specs.Prelude.{◌≡◌};
 ghost use Rattle.texts_rules.specs.Text.{line_of};
 ghost use Rattle.journal_rules.specs.Gaps.{gap_to};

@@ -1,5 +1,8 @@
 // Makes the lines that are wanted of a frame, those of a listing or those of the slips, and puts a line into lent memory. Crate `recorder_lines` lays the frames
 // of a step by these, and passes on what a user names. What a line says is defined in crate `lines_rules`; Wants.antt says which are wanted.
+
+#![tactic(auto)]
+
 ghost use Rattle.std.specs.Prelude.{◌≡◌, List, ℕ, ◌+◌, ◌≤◌, length};
 ghost use Rattle.std.proofs.lemmas.List.Edits.{sets};
 ghost use Rattle.texts_rules.specs.Text.{line_of};
@@ -13,7 +16,7 @@ use texts::empty;
 use texts_rules::Line;
 
 // Says which lines are wanted: one for each frame and each gap, or one for each frame that moved.
-#[derive(Drop)]
+#[derive(Clone, Copy)]
 pub enum Wanted {
     Listing,
     Slips,

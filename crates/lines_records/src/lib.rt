@@ -1,5 +1,8 @@
 // Makes the lines of a journal's records, as `show` prints them. The line of the gap before a frame, which is named here too, is the crate `lines_gaps`.
 // What is shown is defined in crate `lines_rules`, whose types are named here too.
+
+#![tactic(auto)]
+
 ghost use Rattle.std.specs.Prelude.{◌≡◌, List, ◌++◌, ℕ, ◌+◌, ◌≤◌};
 ghost use Rattle.texts_rules.specs.Text.{line_of};
 ghost use Rattle.lines_rules.specs.Entries.{outcome_words, figures_text, shown_body, shown_as, shown_record};

@@ -2,6 +2,9 @@
 // Merges two packed recordings of the same time, and writes the journal of the merged frames to standard output.
 // Frames that are not in the journal are counted on standard error, where there are any: `late N double N passed over N refused N`.
 
+#![tactic(auto)]
+
+
 // Opens the file that argument i names and gives its descriptor; where that fails, it says so with the system's reason on standard error and gives a negative
 // number.
 fn open_argument(i: usize) -> i32 {

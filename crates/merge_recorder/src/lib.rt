@@ -2,6 +2,9 @@
 //
 // What a step and a flush promise is in the crate merge_recorder_rules (specs/Steps.antt), with what holds of whole streams (specs/Statements.antt). The turns
 // are in the crates merge_recorder_steps and merge_recorder_turns.
+
+#![tactic(auto)]
+
 ghost use Rattle.std.specs.Prelude.{◌≡◌, ◌/◌, min};
 ghost use Rattle.bits.specs.declared.Refusal.TheVariants.{FrameRoom};
 ghost use Rattle.frame_outcomes.specs.Outcomes.{tried_of};

@@ -2,6 +2,9 @@
 // each theorem is the `ensures` of an empty function, so that it cannot vanish.
 //
 // specs/Steps.antt says what a step and a flush promise, specs/Calls.antt what a history of steps is; specs/Statements.antt has the theorems.
+
+#![tactic(auto)]
+
 ghost use Rattle.merge_recorder_rules.specs.Statements.{merge_step_rules, merge_refuses, merge_records};
 
 use journal_rules::Earlier;
@@ -9,7 +12,7 @@ use merging_rules::Work;
 use sync::{Push, Synchroniser};
 
 // Holds the synchronisers of the primary and of the alternate, what is made of their frames, and the frame written last.
-#[derive(Drop)]
+#[derive(Clone, Copy)]
 pub struct MergeRecorder {
     pub first: Synchroniser,
     pub second: Synchroniser,
@@ -20,7 +23,7 @@ pub struct MergeRecorder {
 // Says how many dibits of each stream a step used, of one that has ended as far as it has them, and how many bytes of records it laid at the front of the lent
 // memory. The answer is a refusal by 2 where too little memory is lent, and nothing is done then; it is one by 3 where a stream was full, which takes 2^40
 // dibits: the turns are made, and in them that stream has ended. It hands back the next recorder.
-#[derive(Drop)]
+#[derive(Clone, Copy)]
 pub struct MergeStepped {
     pub used: usize,
     pub size: usize,

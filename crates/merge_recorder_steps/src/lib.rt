@@ -1,4 +1,7 @@
 // The turns of a step over two streams, as long as there are dibits and memory for what a turn may need.
+
+#![tactic(auto)]
+
 ghost use Rattle.std.specs.Prelude.{◌≡◌, ◌⊎◌, true, false, ◌+◌, ◌-◌, ◌*◌, ◌≤◌, ◌<◌, min, ltb, length};
 ghost use Rattle.frame_outcomes.specs.Outcomes.{tried_of};
 ghost use Rattle.merge_recorder_rules.specs.Steps.{ValidMerge, merge_need, most_turns, available_of, MergeSteppedBy};
@@ -27,7 +30,7 @@ const MOST_TURNS: usize = 4611686018427387904;
 
 // Says what a step has ahead of it. Of the primary: from which dibit of its first byte on it is used, whether nothing comes after its bytes, how many dibits
 // they hold from there on, and how many its synchroniser has taken before; of the alternate the same; and how many turns can be made.
-#[derive(Drop)]
+#[derive(Clone, Copy)]
 struct Ahead {
     from: usize,
     over: bool,

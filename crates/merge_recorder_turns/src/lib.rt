@@ -1,5 +1,8 @@
 // One turn over two streams: a dibit of each, or a calm stretch of both, goes into their synchronisers, whose rings are lent in place; the frames that come go to
 // the merger; then all that is ready is handed on.
+
+#![tactic(auto)]
+
 ghost use Rattle.std.specs.Prelude.{◌≡◌, true, false, ◌+◌, ◌^◌, ◌≤◌, ◌<◌, length, take, drop};
 ghost use Rattle.frame_outcomes.specs.Outcomes.{tried_of};
 ghost use Rattle.merge_recorder_rules.specs.Steps.{Going, merge_need};
@@ -23,7 +26,7 @@ use sync_rules::{Head, MOST_HELD, ROOM_SIZE};
 use sync_steps::{Numbers, feed_into};
 
 // Says what a dibit, or a calm stretch, of a stream brought: how far it is settled, the numbers of its synchroniser and the frames that went out.
-#[derive(Drop)]
+#[derive(Clone, Copy)]
 pub struct Brought {
     pub settled: Clock,
     pub numbers: Numbers,

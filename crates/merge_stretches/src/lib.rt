@@ -1,5 +1,8 @@
 // Tells how many dibits of two streams of the same time can go in at once so that nothing is otherwise than dibit by dibit, and how far a stream that
 // was fed is settled.
+
+#![tactic(auto)]
+
 ghost use Rattle.std.specs.Prelude.{◌≡◌, List, ℕ, ◌-◌, ◌≤◌, min, max};
 ghost use Rattle.sync_rules.specs.Sizes.{most_dibits};
 ghost use Rattle.sync_numbers.specs.View.{view_of};

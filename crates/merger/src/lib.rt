@@ -3,6 +3,9 @@
 //
 // What the answers are, and what is proved of them, is in the crate merger_rules (specs/Merging.antt, specs/Statements.antt).
 // What works on single positions, on the positions in order and on offsets is in the crate merger_steps.
+
+#![tactic(auto)]
+
 ghost use Rattle.std.specs.Prelude.{◌≡◌, cond, []};
 ghost use Rattle.merger_rules.specs.Merging.{held_of, view, push_of, release_of};
 ghost use Rattle.merger.specs.States.{view_of, ValidMerger, PushGave, ReleaseGave};
@@ -20,7 +23,7 @@ mod pushing; // pushing.rt: a frame that is neither refused nor late
 mod releasing; // releasing.rt: a position that is ready
 
 // The first n positions are pending, in the order of their keys; what stands after them is stale and seen by no answer.
-#[derive(Drop)]
+#[derive(Clone, Copy)]
 pub struct Merger {
     pub n: usize,
     pub positions: [Position; 16],
@@ -28,14 +31,14 @@ pub struct Merger {
 }
 
 // Hands back what a push answers, and the next merger.
-#[derive(Drop)]
+#[derive(Clone, Copy)]
 pub struct AfterPush {
     pub answer: Keeping,
     pub merger: Merger,
 }
 
 // Hands back what a release answers, the numbers that are free again, and the next merger.
-#[derive(Drop)]
+#[derive(Clone, Copy)]
 pub struct AfterRelease {
     pub answer: Released,
     pub freed: Freed,

@@ -3,20 +3,23 @@
 //
 // Read specs/Merging.antt for what the answers are, specs/Source.antt for the source's own loop, specs/Statements.antt for what is proved of them:
 // each theorem is the `ensures` of an empty function, so that it cannot vanish. Nothing runs here.
+
+#![tactic(auto)]
+
 ghost use Rattle.merger_rules.specs.Statements.{Reached, Rises, Snapping, OnlyReady, Fates, GivenBack, FromKept, AsTheSource, OffGrid, NeverFull};
 
 use bits::Refusal;
 use sync_rules::Head;
 
 // Gives an offset, or none: what was released last, or how far a stream is settled.
-#[derive(Drop)]
+#[derive(Clone, Copy)]
 pub enum Clock {
     Absent,
     At(u64),
 }
 
 // Keeps what the merger needs of a frame.
-#[derive(Drop)]
+#[derive(Clone, Copy)]
 pub struct Held {
     pub figures: Head,
     pub number: u64,
@@ -24,14 +27,14 @@ pub struct Held {
 }
 
 // Says what a stream's place in a position holds: a frame or none.
-#[derive(Drop)]
+#[derive(Clone, Copy)]
 pub enum Place {
     Empty,
     Holds(Held),
 }
 
 // Holds the frames of the two streams that cover one transmission, each within 191 bits of the key.
-#[derive(Drop)]
+#[derive(Clone, Copy)]
 pub struct Position {
     pub key: u64,
     pub primary: Place,
@@ -39,7 +42,7 @@ pub struct Position {
 }
 
 // Says what a push answers. Its refusals are 7 (stream), 8 (offset) and 9 (positions).
-#[derive(Drop)]
+#[derive(Clone, Copy)]
 pub enum Keeping {
     Kept,
     Double,
@@ -48,7 +51,7 @@ pub enum Keeping {
 }
 
 // Says of a frame handed on its figures with the offset on the grid, its number, and a yes where it is the alternate's.
-#[derive(Drop)]
+#[derive(Clone, Copy)]
 pub struct Release {
     pub figures: Head,
     pub number: u64,
@@ -56,7 +59,7 @@ pub struct Release {
 }
 
 // Says what a release answers of the first position.
-#[derive(Drop)]
+#[derive(Clone, Copy)]
 pub enum Released {
     Frame(Release),
     PassedOver,
@@ -64,21 +67,21 @@ pub enum Released {
 }
 
 // Says what a place gave back: the number of the frame that it held, which the caller may use again.
-#[derive(Drop)]
+#[derive(Clone, Copy)]
 pub enum Free {
     Nothing,
     Number(u64),
 }
 
 // Names the numbers that are free again: those of the position that was released or passed over, of both streams.
-#[derive(Drop)]
+#[derive(Clone, Copy)]
 pub struct Freed {
     pub primary: Free,
     pub alternate: Free,
 }
 
 // Says which of the two places of a position is chosen.
-#[derive(Drop)]
+#[derive(Clone, Copy)]
 pub enum Choice {
     Neither,
     Chosen(Held, bool),

@@ -2,6 +2,9 @@
 //
 // Read specs/Grids.antt and specs/Streams.antt for what streams are, specs/Statements.antt for what is proved of them: each theorem is the `ensures` of
 // an empty function, so that it cannot vanish. What the merger answers is in the crate merger_rules.
+
+#![tactic(auto)]
+
 ghost use Rattle.std.specs.Prelude.{List, ℕ};
 ghost use Rattle.merger_rules.specs.Scripts.{Call};
 ghost use Rattle.merger_stream_rules.specs.Grids.{OnGrid};

@@ -1,4 +1,7 @@
 // What goes into the merger with a frame, and what its answer means for the counts and for the shelf.
+
+#![tactic(auto)]
+
 ghost use Rattle.std.specs.Prelude.{◌≡◌, ◌+◌, ◌<◌, length};
 ghost use Rattle.merging_rules.specs.Accounts.{most_told, told_of, counted};
 ghost use Rattle.merging_rules.specs.Piles.{laid_on, insists, yields};

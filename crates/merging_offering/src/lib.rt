@@ -1,4 +1,7 @@
 // Hands frames to the merger, each with the hard decoder's yes or no.
+
+#![tactic(auto)]
+
 ghost use Rattle.std.specs.Prelude.{◌≡◌, ℕ, ◌+◌, ◌*◌, ◌≤◌, ◌<◌, length, get_or, take};
 ghost use Rattle.frame_outcomes.specs.Outcomes.{tried_of};
 ghost use Rattle.bits.specs.declared.Refusal.TheVariants.{Positions};
@@ -22,7 +25,7 @@ use recorder_rules::Laid;
 use sync_rules::{Head, SLOT_SIZE};
 
 // Hands back the merger's answer to a frame, and the work after it.
-#[derive(Drop)]
+#[derive(Clone, Copy)]
 pub struct Offered {
     pub answer: Keeping,
     pub work: Work,

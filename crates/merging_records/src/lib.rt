@@ -1,4 +1,7 @@
 // Lays the record of a frame that the merger hands on into lent memory, with the gap before it.
+
+#![tactic(auto)]
+
 ghost use Rattle.std.specs.Prelude.{◌≡◌, [], ◌∷◌, ◌+◌, ◌≤◌, ◌<◌, length};
 ghost use Rattle.merging_rules.specs.Piles.{freed_slot, envelope_for, framed_from, frames_out};
 ghost use Rattle.merging_rules.specs.Works.{FramesLaid, WritableFrom, need_of};

@@ -1,4 +1,7 @@
 // Hands on what the merger releases: the records of its frames are laid into lent memory, one behind the other, and all is counted.
+
+#![tactic(auto)]
+
 ghost use Rattle.std.specs.Prelude.{◌≡◌, ◌+◌, ◌≤◌, ◌<◌, length};
 ghost use Rattle.merging_rules.specs.Accounts.{Idle, TakesOut, most_told, told_of, gone_of, gone_by};
 ghost use Rattle.merging_rules.specs.Piles.{released, all_released};
@@ -11,7 +14,7 @@ use merging_shelf::{how_many, without};
 use recorder_rules::Laid;
 
 // Hands back the work after a call, and what is laid.
-#[derive(Drop)]
+#[derive(Clone, Copy)]
 pub struct Moved {
     pub work: Work,
     pub laid: Laid,

@@ -3,6 +3,9 @@
 // Read specs/Piles.antt for what a frame that is handed in, and a release, does; specs/Turns.antt for two recordings, dibit by dibit; specs/Merged.antt for what is
 // proved of them (with specs/Orders.antt for what is handed in, specs/Settling.antt for how long it waits, specs/Tallies.antt for what is counted of the answers);
 // specs/Accounts.antt and specs/Statements.antt for what is counted. Each statement is the `ensures` of an empty function, so that it cannot vanish.
+
+#![tactic(auto)]
+
 ghost use Rattle.merging_rules.specs.Merged.{merged_rule};
 ghost use Rattle.merging_rules.specs.Statements.{slot_left, push_counted, release_counted, all_counted};
 
@@ -10,7 +13,7 @@ use merger::Merger;
 use merging_shelf::Shelf;
 
 // Counts what became of the frames: taken in, late, their place taken, or refused, as those are that give way.
-#[derive(Drop)]
+#[derive(Clone, Copy)]
 pub struct Answered {
     pub kept: u64,
     pub late: u64,
@@ -19,7 +22,7 @@ pub struct Answered {
 }
 
 // Counts those of the frames taken in that wait no longer: in the journal, gave way to the other stream's frame of their position, or passed over.
-#[derive(Drop)]
+#[derive(Clone, Copy)]
 pub struct Gone {
     pub released: u64,
     pub others: u64,
@@ -27,7 +30,7 @@ pub struct Gone {
 }
 
 // Holds what frames are merged with: the merger, the waiting frames of both streams, and the two counts.
-#[derive(Drop)]
+#[derive(Clone, Copy)]
 pub struct Work {
     pub merger: Merger,
     pub shelf: Shelf,

@@ -1,5 +1,8 @@
 // The shelf: a slot for each frame that waits in the merger, and one for the frame that is handed in. At most 16 positions wait, and each holds at most one
 // frame of each stream: so 33 slots are enough, and the memory is constant. A slot's place is the number that the merger keeps for its frame.
+
+#![tactic(auto)]
+
 ghost use Rattle.std.specs.Prelude.{◌≡◌, true, false, ◌<◌, length, get_or, set, replicate};
 ghost use Rattle.journal_rules.specs.declared.Outcome.TheVariants.{Untried};
 ghost use Rattle.merging_shelf.specs.Slots.{shelf_slots, free_slot, used, IsSlot, cleared, count_free, count_freed, put_in};
@@ -8,7 +11,7 @@ use journal_rules::Tried;
 use merger_rules::{Free, Freed};
 
 // Which slots are taken, what the decoder said of their frames, and their envelopes, 48 bytes a slot.
-#[derive(Drop)]
+#[derive(Clone, Copy)]
 pub struct Shelf {
     pub taken: [bool; 33],
     pub tried: [Tried; 33],

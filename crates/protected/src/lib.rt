@@ -4,6 +4,9 @@
 //
 // Table admission: document 01's four rules, each a test of its own. No loop ends early: an admitted table is tested to its end in any case, and the
 // compiler tests sixteen entries at a time.
+
+#![tactic(auto)]
+
 ghost use Rattle.std.specs.Prelude.{◌≡◌, ◌||◌, ℕ, ◌<◌, get_or, length, ltb, eqb};
 ghost use Rattle.protected_rules.specs.Table.{count, odd_fits, even_fits, each_once, admits};
 

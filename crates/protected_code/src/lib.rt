@@ -1,4 +1,7 @@
 // Makes the coded bits of an input, and finds the input of received bits by the inverse filter, over any admitted table.
+
+#![tactic(auto)]
+
 ghost use Rattle.std.specs.Prelude.{◌≡◌, ℕ, ◌≤◌, get_or};
 ghost use Rattle.bits.specs.Bit.{tab};
 ghost use Rattle.protected_rules.specs.Table.{Admitted};

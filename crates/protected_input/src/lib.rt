@@ -1,4 +1,7 @@
 // Makes the 8-bit checksum, and the 94 input bits that carry it.
+
+#![tactic(auto)]
+
 ghost use Rattle.std.specs.Prelude.{◌≡◌, ℕ, ◌≤◌, ◌<◌, get_or, length};
 ghost use Rattle.bits.specs.Bit.{Bits};
 ghost use Rattle.protected_rules.specs.Checksum.{crc8_step, crc8_of, then_zeros, input_of, position, checksum_in, checksum_for};

@@ -1,6 +1,9 @@
 // What the protected part of a voice frame means: the coordinate table, the checksum, the input bits, the code and its inverse, and where the bits lie in a
 // word. There is no code here: each theorem is the `ensures` of an empty function, so that it cannot vanish. The crate `protected` names the code that
 // follows these definitions.
+
+#![tactic(auto)]
+
 ghost use Rattle.protected_rules.specs.Statements.{AdmissionMeaning, ChecksumMeaning, CodeMeaning, InputMeaning, WordMeaning};
 
 // Picks those of a step's nine bits whose parity goes to the table's even entry, as specs/Convolution.antt has it.

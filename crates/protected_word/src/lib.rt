@@ -1,4 +1,7 @@
 // Reads and writes the coded bits and the payload's bits where they lie in a word.
+
+#![tactic(auto)]
+
 ghost use Rattle.std.specs.Prelude.{◌≡◌, ◌+◌, ◌*◌, ◌≤◌, ◌<◌, get_or, length};
 ghost use Rattle.bits.specs.Bit.{bit_lo, number, Bits};
 ghost use Rattle.protected_rules.specs.Word.{coded, with_coded_byte, with_coded, payload_bit, payload_of, front_byte, front};

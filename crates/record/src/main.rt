@@ -1,6 +1,9 @@
 // record [TABLE]
 // Writes the journal of the frames in packed dibits on standard input to standard output.
 // With a table each frame is decoded, and its record says whether it was accepted; without one the frames are untried.
+
+#![tactic(auto)]
+
 fn main() {
     let arguments = os::arg_count();
     if arguments < 2 {

@@ -2,6 +2,9 @@
 // laying.rt lays what is asked of a push's frames one behind the other; here are the steps, and what holds of any history of them (specs/Statements.antt).
 //
 // What is asked of frames is defined in crate `recorder_asks`, what a step promises in `recorder_rules`.
+
+#![tactic(auto)]
+
 ghost use Rattle.std.specs.Prelude.{◌≡◌, length};
 ghost use Rattle.recorder_rules.specs.Steps.{ValidRecorder, SteppedBy, dibits_of, room_for};
 ghost use Rattle.recorder.specs.Asks.{making_of, need_of};

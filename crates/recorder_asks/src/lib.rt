@@ -1,9 +1,12 @@
 // What may be asked of a recording's frames, and how much memory it may need. What is made of frames then is defined in specs/Asks.antt.
+
+#![tactic(auto)]
+
 ghost use Rattle.std.specs.Prelude.{◌≡◌};
 ghost use Rattle.recorder_asks.specs.Asks.{need_of, is_speech, is_decoded};
 
 // Says what is made of frames: their records, untried; their records, decoded with a table; or the lines of their speech.
-#[derive(Drop)]
+#[derive(Clone, Copy)]
 pub enum Asked {
     Untried,
     Decoded,

@@ -1,5 +1,8 @@
 // Lays what is asked of a frame into lent memory, behind what is there, and asks the decoder where that is wanted. What is asked is defined in crate
 // `recorder_asks`.
+
+#![tactic(auto)]
+
 ghost use Rattle.std.specs.Prelude.{◌≡◌, [], ◌∷◌, ◌+◌, ◌≤◌, ◌<◌, length};
 ghost use Rattle.recorder_rules.specs.Steps.{LaidBy, Writable};
 ghost use Rattle.recorder_asks.specs.Asks.{making_of, share_of, tried_as};

@@ -3,6 +3,9 @@
 // frames of a step.
 //
 // What is made of frames is defined in crate `recorder_rules`, what a line says in `lines_rules`.
+
+#![tactic(auto)]
+
 ghost use Rattle.recorder_rules.specs.Steps.{ValidRecorder, SteppedBy, dibits_of};
 ghost use Rattle.recorder_lines.specs.Wants.{making_of};
 

@@ -1,4 +1,7 @@
 // Lays the records of frames and of the gaps before them into lent memory, one behind the other. No decoder is needed for them, and no file is read or written.
+
+#![tactic(auto)]
+
 ghost use Rattle.std.specs.Prelude.{◌≡◌, true, cond, [], ◌∷◌, ◌+◌, ◌≤◌, ◌<◌, length};
 ghost use Rattle.std.proofs.lemmas.List.Edits.{sets};
 ghost use Rattle.bits.specs.Sizes.{most_offset};

@@ -4,13 +4,16 @@
 //
 // specs/Makings.antt says what a program makes of frames, specs/Steps.antt what a step promises, specs/Calls.antt what a history of steps is;
 // specs/Statements.antt has the theorems.
+
+#![tactic(auto)]
+
 ghost use Rattle.recorder_rules.specs.Statements.{MakingsSequential, step_rules, steps_make, cut_anywhere, whole_input, journal_rule};
 
 use journal_rules::Earlier;
 use sync::{Push, Synchroniser};
 
 // Holds the synchroniser, and the frame before the next one.
-#[derive(Drop)]
+#[derive(Clone, Copy)]
 pub struct Recorder {
     pub sync: Synchroniser,
     pub earlier: Earlier,
@@ -18,7 +21,7 @@ pub struct Recorder {
 
 // Says how many dibits a step used, how many bytes it laid at the front of the lent memory, how many of its frames were accepted, and what the last push
 // answered; and hands back the next recorder.
-#[derive(Drop)]
+#[derive(Clone, Copy)]
 pub struct Stepped {
     pub used: usize,
     pub size: usize,
@@ -28,7 +31,7 @@ pub struct Stepped {
 }
 
 // Says how many bytes of a step's frames are laid so far, how many of the frames were accepted, and which was the last.
-#[derive(Drop)]
+#[derive(Clone, Copy)]
 pub struct Laid {
     pub size: usize,
     pub accepted: usize,

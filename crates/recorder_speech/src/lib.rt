@@ -1,5 +1,8 @@
 // Lays the lines of frames' speech, and of the gaps before them, into lent memory, one behind the other. What they say is defined in crate
 // `recorder_asks`. The decoder's answer is asked for in crate `recorder_frames`, and no file is read or written here.
+
+#![tactic(auto)]
+
 ghost use Rattle.std.specs.Prelude.{◌≡◌, cond, List, [], ◌∷◌, ℕ, ◌+◌, ◌≤◌, ◌<◌, length};
 ghost use Rattle.frame_outcomes.specs.Outcomes.{tried_by};
 ghost use Rattle.recorder_rules.specs.Makings.{is_accepted};

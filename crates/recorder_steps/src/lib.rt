@@ -1,4 +1,7 @@
 // What every step of a recording begins and ends with, whatever is made of its frames. Crates `recorder_lines` and `recorder` make lines and records of them.
+
+#![tactic(auto)]
+
 ghost use Rattle.std.specs.Prelude.{◌≡◌, ◌*◌, ◌≤◌, ◌<◌, length, take, drop};
 ghost use Rattle.recorder_rules.specs.Statements.{Fresh};
 ghost use Rattle.recorder_rules.specs.Steps.{room_for};

@@ -2,6 +2,9 @@
 // Runs a case list from standard input over the libraries and says where an answer is not the expected one.
 // docs/REPLAY.md has the list's format. Prints the first ten differences, and last `cases N differences D` or `bad list at case N`.
 
+#![tactic(auto)]
+
+
 // The crate `replay_list` reads the list and prints; a case is answered by its kind in `replay_voice` (1 to 11), `replay_sync` (12 to 14, 18 to 20) and
 // `replay_merger` (15 to 17).
 use merger::Merger;

@@ -1,4 +1,7 @@
 // The bytes of a case of docs/REPLAY.md: numbers read from its input, and its answer put together in lent memory.
+
+#![tactic(auto)]
+
 ghost use Rattle.std.specs.Prelude.{◌≡◌, ◌∷◌, [], ◌+◌, ◌-◌, ◌*◌, ◌<◌, min, pos, get_or};
 ghost use Rattle.std.specs.Int.Signed.{lt_z};
 ghost use Rattle.bits.specs.BigEndian.{value_of};

@@ -1,5 +1,8 @@
 // What a case of docs/REPLAY.md answers, of the kinds 1 to 4: CRC-16, scrambling and its inverse, the field.
 // The answer's bytes go into lent memory; specs/ defines them by what the libraries promise.
+
+#![tactic(auto)]
+
 ghost use Rattle.replay_bytes.specs.Answers.{Told};
 ghost use Rattle.replay_coding.specs.Cases.{crc_case, scramble_case, descramble_case, field_case};
 

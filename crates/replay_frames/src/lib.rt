@@ -1,4 +1,7 @@
 // Frames as bytes of a case's answer (docs/REPLAY.md): a frame's head, and the frames of a push with their slots of the room.
+
+#![tactic(auto)]
+
 ghost use Rattle.std.specs.Prelude.{◌≡◌, cond, ◌++◌, ◌<◌, take, drop};
 ghost use Rattle.sync_rules.specs.Sizes.{slot_size};
 ghost use Rattle.replay_bytes.specs.Bytes.{Put};

@@ -8,7 +8,7 @@ use replay_bytes::pair;
 const MOST_BYTES: usize = 4000;
 
 // A case in the window: its input lies from `input` to `middle`, its expected answer from `expected` to `next`. The bytes read end at `end`.
-#[derive(Drop)]
+#[derive(Clone, Copy)]
 pub struct Case {
     pub kind: u8,
     pub input: usize,

@@ -7,7 +7,7 @@ use crate::report;
 use replay_bytes::no_case;
 
 // Says how many cases were run, how many of them differed, and whether to go on: not behind the list's end, nor behind a case that is none.
-#[derive(Drop)]
+#[derive(Clone, Copy)]
 pub struct Tally {
     pub cases: u64,
     pub differences: u64,

@@ -1,5 +1,8 @@
 // What a case of docs/REPLAY.md answers, of the kinds 16 and 17: pushes into the merger, and releases until nothing is ready.
 // The answer's bytes go into lent memory; the merger goes in and comes back by value.
+
+#![tactic(auto)]
+
 ghost use Rattle.std.specs.Prelude.{◌≤◌, ◌≡◌, length};
 ghost use Rattle.merger.specs.States.{view_of};
 ghost use Rattle.merger_rules.specs.Merging.{release_of};
@@ -12,7 +15,7 @@ use replay_bytes::{at, no_case, put};
 use replay_merger_bytes::{clock, eight, head_in, pushed_number, put_release};
 
 // Hands back the merger after the case, and the answer's length.
-#[derive(Drop)]
+#[derive(Clone, Copy)]
 pub struct Merged {
     pub size: usize,
     pub merger: Merger,
@@ -50,7 +53,7 @@ pub fn merger_pushed(m: Merger, input: &[u8], out: &mut [u8]) -> Merged
 }
 
 // Hands back the merger after a release, and the place behind its frame's bytes. `going` is false where nothing was ready.
-#[derive(Drop)]
+#[derive(Clone, Copy)]
 struct Step {
     going: bool,
     length: usize,

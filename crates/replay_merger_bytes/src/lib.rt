@@ -1,4 +1,7 @@
 // The bytes of the merger's cases (docs/REPLAY.md, kinds 16 and 17): what is read of an input, what is put of an answer.
+
+#![tactic(auto)]
+
 ghost use Rattle.std.specs.Prelude.{◌≡◌, ◌+◌, ◌≤◌, length};
 ghost use Rattle.replay_bytes.specs.Bytes.{Put};
 ghost use Rattle.replay_merger_bytes.specs.MergerBytes.{clock_if, eight_at, head_in, moves_in, pushed_number, release_bytes};

@@ -1,4 +1,7 @@
 // The answer of a push and of a feed as bytes (docs/REPLAY.md): the status, the frames in the room, the figures of the next state.
+
+#![tactic(auto)]
+
 ghost use Rattle.replay_bytes.specs.Bytes.{Put};
 ghost use Rattle.sync.specs.View.{ValidSynchroniser, view};
 ghost use Rattle.replay_pushes.specs.Pushes.{Shown, ShownFed, count_bytes, figure_bytes};
@@ -8,7 +11,7 @@ use replay_frames::put_frames;
 use sync::{Fed, Push, Pushed, Synchroniser};
 
 // Hands back the synchroniser after the case, and the answer's length.
-#[derive(Drop)]
+#[derive(Clone, Copy)]
 pub struct Synchronised {
     pub size: usize,
     pub sync: Synchroniser,

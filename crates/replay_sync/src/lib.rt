@@ -1,5 +1,8 @@
 // What a case of docs/REPLAY.md answers, of the kinds 13, 14 and 18 to 20: the synchroniser's pushes and feeds.
 // The answer's bytes go into lent memory; the synchroniser goes in and comes back by value.
+
+#![tactic(auto)]
+
 ghost use Rattle.sync.specs.View.{ValidSynchroniser, view};
 ghost use Rattle.replay_sync.specs.Kinds.{Turned, turn_of};
 ghost use Rattle.replay_sync.specs.Streams.{ToldBy, fed_case, fed_packed_case, fed_soft_case, push_case, pushed_case, soft_push};

@@ -1,5 +1,8 @@
 // What a case of docs/REPLAY.md answers, of the kinds 5 to 7: tails made and repaired.
 // The case's bytes are copied, since the calls write into what is lent.
+
+#![tactic(auto)]
+
 ghost use Rattle.std.specs.Prelude.{◌≡◌, false, [], get_or};
 ghost use Rattle.bits.specs.Bit.{tab};
 ghost use Rattle.replay_bytes.specs.Bytes.{Put};

@@ -5,7 +5,7 @@ ghost use Rattle.replay_voice.specs.Kinds.{CodedBy, coded_case, kind_case, table
 use replay_bytes::no_case;
 
 // Says the answer's length, and how many bytes the table in force has.
-#[derive(Drop)]
+#[derive(Clone, Copy)]
 pub struct Answered {
     pub size: usize,
     pub table: usize,

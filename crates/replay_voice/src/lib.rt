@@ -1,4 +1,7 @@
 // What a case of docs/REPLAY.md answers, of the kinds 8 to 11: a table, encoding, hard and soft decoding. kinds.rt answers a case of 1 to 11 by its kind.
+
+#![tactic(auto)]
+
 ghost use Rattle.replay_bytes.specs.Bytes.{Put};
 ghost use Rattle.replay_bytes.specs.Answers.{Told};
 ghost use Rattle.replay_voice.specs.Cases.{table_case, encode_case, decode_case, soft_case, spoken};

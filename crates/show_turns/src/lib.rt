@@ -1,6 +1,9 @@
 // What `show` makes of what the read of a record gave: a line, or the last line, behind what was printed before. The line is made by
 // `lines_records::show_record`; this crate counts, prints and tells whether another record may follow.
 // The definitions are in specs/Records.antt and specs/Turns.antt.
+
+#![tactic(auto)]
+
 ghost use Rattle.std.specs.Prelude.{◌≡◌, ◌+◌, ◌<◌, ◌≤◌, ◌^◌};
 ghost use Rattle.channels.specs.Moving.{CameInto};
 ghost use Rattle.show_turns.specs.Records.{counted_as};
@@ -11,7 +14,7 @@ use lines_rules::What;
 use texts_printing::print_behind;
 
 // How many records, frames and gaps were printed.
-#[derive(Drop)]
+#[derive(Clone, Copy)]
 pub struct Printed {
     pub records: u64,
     pub frames: u64,
@@ -20,7 +23,7 @@ pub struct Printed {
 
 // How the showing of a journal has ended: with its file, after whole records; with something that is no record, whose line is then the last; broken off, since a
 // read or a write has failed; or not at all: no end was met, and no turn is left.
-#[derive(Drop)]
+#[derive(Clone, Copy)]
 pub enum Ending {
     Whole,
     Refused,
@@ -29,7 +32,7 @@ pub enum Ending {
 }
 
 // What is left of a whole journal: how it ended, how many bytes were sent, and the counts.
-#[derive(Drop)]
+#[derive(Clone, Copy)]
 pub struct Run {
     pub ending: Ending,
     pub sent: Sent,

@@ -4,6 +4,9 @@
 // a line with these words stands before what the program writes, what it says of its table included.
 // `record` is without a table, `record-with` has one.
 
+#![tactic(auto)]
+
+
 ghost use Rattle.std.specs.Prelude.{◌<◌, ◌≤◌};
 
 // Prints argument i as a word of the case's line, opens the file of that name, and gives its descriptor.

@@ -1,6 +1,9 @@
 // The synchroniser: dibits in, frames out.
 // Each push takes the state by value and hands back the next one beside the heads of its frames; envelopes and reliabilities go into the lent room.
 // What a push does to the rings and the numbers of a state is in the crates `sync_pushes` and `sync_steps`, what holds of any history of calls in `sync_call_rules`.
+
+#![tactic(auto)]
+
 ghost use Rattle.std.specs.Prelude.{◌≡◌, true, false, length, drop};
 ghost use Rattle.sync.specs.View.{ValidSynchroniser, view};
 ghost use Rattle.sync_inputs.specs.Inputs.{input_of};
@@ -17,7 +20,7 @@ use sync_rules::{Head, MOST_HELD, StreamFigures};
 use sync_steps::{Drained, Into, Numbers, feed_into, nothing, sends};
 
 // Holds the rings of bits and of their reliabilities, and the numbers that say where in them the held bits lie.
-#[derive(Drop)]
+#[derive(Clone, Copy)]
 pub struct Synchroniser {
     pub bits: [u8; MOST_HELD],
     pub reliabilities: [u8; MOST_HELD],
@@ -25,7 +28,7 @@ pub struct Synchroniser {
 }
 
 // Says what a push answers, how many frames went out, their heads (zero behind them), and the next synchroniser.
-#[derive(Drop)]
+#[derive(Clone, Copy)]
 pub struct Pushed {
     pub answer: Push,
     pub count: usize,
@@ -34,7 +37,7 @@ pub struct Pushed {
 }
 
 // Says how many dibits were taken, and what the last push answered.
-#[derive(Drop)]
+#[derive(Clone, Copy)]
 pub struct Fed {
     pub used: usize,
     pub pushed: Pushed,

@@ -1,4 +1,7 @@
 // What holds of any history of the synchroniser's calls: they follow the rules, and what holds of the rules' pushes holds of what the calls hand out.
+
+#![tactic(auto)]
+
 ghost use Rattle.sync_call_rules.specs.Feeds.{feed_rules};
 ghost use Rattle.sync_call_rules.specs.Statements.{calls_follow, demand_calls, end_calls, quiet_calls, move_calls, reliable_calls};
 

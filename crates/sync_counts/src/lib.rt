@@ -1,5 +1,8 @@
 // What is counted in the figures of a synchroniser beside its frames: dibits taken, and bits passed in a search. The definitions of the same names are in
 // Figures.antt of the crate `sync_rules`. And what is made of the figures: the slips followed and the net slip.
+
+#![tactic(auto)]
+
 ghost use Rattle.std.specs.Prelude.{◌≡◌, ◌||◌, ◌+◌, ◌*◌, ◌^◌, ◌<◌};
 ghost use Rattle.std.proofs.Math.IntN.{sub_ℕ};
 ghost use Rattle.sync_rules.specs.Sizes.{most_dibits};

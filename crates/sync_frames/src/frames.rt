@@ -21,21 +21,21 @@ use sync_rules::{
 const THIRD_SLOT: usize = 2 * SLOT_SIZE;
 
 // What is said of a frame, and the numbers that it leaves.
-#[derive(Drop)]
+#[derive(Clone, Copy)]
 pub struct Framed {
     pub numbers: Numbers,
     pub head: Head,
 }
 
 // Whether a frame is ready, and whether it is in place.
-#[derive(Drop)]
+#[derive(Clone, Copy)]
 pub struct Readiness {
     pub ready: bool,
     pub placed: bool,
 }
 
 // The frames that went out, and the numbers that they leave.
-#[derive(Drop)]
+#[derive(Clone, Copy)]
 pub struct Drained {
     pub numbers: Numbers,
     pub count: usize,

@@ -1,5 +1,8 @@
 // What is pushed and how it is answered, for the crate `sync_steps`: a push by itself, the tests that a push has to pass, and push number n of a feed.
 // What is right is in specs/Answers.antt and specs/Inputs.antt.
+
+#![tactic(auto)]
+
 ghost use Rattle.std.specs.Prelude.{◌≡◌, [], ◌∷◌, ◌<◌, ◌≤◌, get_or, take, drop};
 ghost use Rattle.sync_rules.specs.Sizes.{most_dibits};
 ghost use Rattle.sync_inputs.specs.Answers.{answerBy, takes};
@@ -9,7 +12,7 @@ use bits::Refusal;
 use sync_rules::{MOST_DIBITS, ROOM_SIZE};
 
 // Says what a push answers: that it was taken, or why it is refused.
-#[derive(Drop)]
+#[derive(Clone, Copy)]
 pub enum Push {
     Taken,
     Refused(Refusal),
@@ -42,7 +45,7 @@ pub fn made(answer: Push) -> usize
 }
 
 // Says what a push brings: a dibit, the reliabilities of its two bits, and whether it is a soft push. `more` is false where there is none to make.
-#[derive(Drop)]
+#[derive(Clone, Copy)]
 pub struct Given {
     pub more: bool,
     pub dibit: u8,
@@ -78,7 +81,7 @@ pub fn soft_given(dibit: u8, first: u8, second: u8) -> Given
 }
 
 // Says what is fed: hard dibits, dibits with two reliabilities each, bytes of four hard dibits, or of such bytes so many dibits at most.
-#[derive(Drop)]
+#[derive(Clone, Copy)]
 pub enum Source {
     Hard,
     Soft,

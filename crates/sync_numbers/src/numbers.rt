@@ -9,7 +9,7 @@ use super::figures::{frame_sent, shift_counted, slips_counted};
 use sync_rules::{MOST_HELD, StreamFigures};
 
 // Everything but the rings: where in them the held bits begin, how many of these are restorable and how many pending, and the figures.
-#[derive(Drop)]
+#[derive(Clone, Copy)]
 pub struct Numbers {
     pub first: usize,
     pub restorable: usize,

@@ -1,6 +1,9 @@
 // The parts of a push that was taken, before its frames, for the crates `sync_steps` and `sync`: its two bits are brought into the lent rings, and where
 // there is no lock the place of three frames is searched. Steps.antt says what each part promises; what rings and numbers stand for is in the crate
 // `sync_numbers`.
+
+#![tactic(auto)]
+
 ghost use Rattle.std.specs.Prelude.{◌≡◌, true, false, List, ℕ, ◌+◌, ◌-◌, ◌*◌, ◌/◌, ◌%◌, ◌<◌, ◌≤◌, length, set};
 ghost use Rattle.sync_rules.specs.Sizes.{search_bits, most_held, most_dibits};
 ghost use Rattle.bits.specs.Bit.{Bits};

@@ -11,7 +11,7 @@ use sync_rules::MOST_HELD;
 use sync_spelling::spelled;
 
 // Whether a marker matches, and how many of its 16 bits are wrong.
-#[derive(Drop)]
+#[derive(Clone, Copy)]
 pub struct MarkerSeen {
     pub matched: bool,
     pub errors: u32,

@@ -1,5 +1,8 @@
 // Writes a frame from two lent rings into the lent room: 48 envelope bytes, and 384 reliabilities once a soft push has been made. A ring has 1,155 places.
 // The contracts speak of what stands in a ring from some place on (`sync_rules`, specs/Ring.antt); which places are held the crates above say.
+
+#![tactic(auto)]
+
 ghost use Rattle.std.specs.Prelude.{◌≡◌, cond, [], ◌+◌, ◌<◌, ◌≤◌, length};
 ghost use Rattle.std.proofs.lemmas.List.Edits.{sets};
 ghost use Rattle.bits.specs.Bit.{Bits};

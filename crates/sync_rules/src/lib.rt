@@ -1,4 +1,7 @@
 // The synchroniser's rules on lists of bits, and what holds of them: demand 3 and document 01's statements. The crate `sync` has the code that follows them.
+
+#![tactic(auto)]
+
 ghost use Rattle.std.specs.Prelude.{◌≡◌};
 ghost use Rattle.sync_rules.specs.Moves.{no_moves};
 ghost use Rattle.sync_rules.specs.Frames.{no_head};
@@ -16,7 +19,7 @@ pub use sizes::{
 
 // How a frame slipped, in bits: how far its front was moved to follow a slip (-2, 0 or 2), and how far its second and third segment lie off their places
 // behind it (-2, 0 or 2; -4 to 4, the second's shift included). All zero for a frame in place.
-#[derive(Drop)]
+#[derive(Clone, Copy)]
 pub struct Moves {
     pub front: i8,
     pub second: i8,
@@ -25,7 +28,7 @@ pub struct Moves {
 
 // What a synchroniser says of a frame: the offset of its first bit, how many of its 48 marker bits are wrong, whether two of its markers match, and its moves.
 // In this order a head is 16 bytes; with the yes before the errors it is 24, and every push and feed pays for it.
-#[derive(Drop)]
+#[derive(Clone, Copy)]
 pub struct Head {
     pub offset: u64,
     pub errors: u32,
@@ -34,7 +37,7 @@ pub struct Head {
 }
 
 // What a synchroniser has counted, and whether it holds a lock: all of its state but the bits that it holds.
-#[derive(Drop)]
+#[derive(Clone, Copy)]
 pub struct StreamFigures {
     pub taken: u64, // dibits taken
     pub clock: u64, // bits passed in searches, and 384 for each frame

@@ -1,5 +1,8 @@
 // Reads a number in a lent ring of bits, for the crates `sync_rings`, which reads markers, and `sync_rooms`, which writes envelopes. A place is any number; the
 // ring goes round after 1,155.
+
+#![tactic(auto)]
+
 ghost use Rattle.std.specs.Prelude.{◌≡◌, ◌≤◌};
 ghost use Rattle.bits.specs.Bit.{Bits};
 ghost use Rattle.sync_rules.specs.Ring.{ring};

@@ -12,7 +12,7 @@ use sync_pushes::{brought, enough};
 use sync_rules::MOST_HELD;
 
 // What many pushes into lent rings came to: the answer to the last, how many were made, and the frames of the last.
-#[derive(Drop)]
+#[derive(Clone, Copy)]
 pub struct Into {
     pub answer: Push,
     pub took: usize,

@@ -1,6 +1,9 @@
 // The tail of a word: fourteen bytes, eight of them free, with the roots 2^0 to 2^5, and its repair, with or without erased places.
 // The definitions, and what they mean, are in crate `tail_rules` (specs/Repair.antt, Calls.antt, RepairStatements.antt). Here a call tests what it is lent;
 // the crate `tail_lent` repairs a lent tail, `tail_repair` one by value, and `tail_making` makes a tail: its call is named here too.
+
+#![tactic(auto)]
+
 ghost use Rattle.std.specs.Prelude.{◌≡◌, []};
 ghost use Rattle.tail_rules.specs.Calls.{tail_answer, tail_leaves, word_answer, word_leaves};
 

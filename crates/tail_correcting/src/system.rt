@@ -9,7 +9,7 @@ ghost use Rattle.tail_rules.specs.Steps.{exponents_of, added_at, RowOf, SystemOf
 use tail_solving::solve;
 
 // The exponents of up to six nodes, and how many these are.
-#[derive(Drop)]
+#[derive(Clone, Copy)]
 struct Places {
     at: [u8; 6],
     count: usize,

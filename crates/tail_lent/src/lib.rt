@@ -1,4 +1,7 @@
 // Repairs a lent tail of fourteen bytes: tests the erased places, copies the tail out, and writes the repair over it. For the calls of crate `tail`.
+
+#![tactic(auto)]
+
 ghost use Rattle.std.specs.Prelude.{◌≡◌, true, length};
 ghost use Rattle.bits.specs.Bit.{Bytes};
 ghost use Rattle.tail_rules.specs.Repair.{repair_of};

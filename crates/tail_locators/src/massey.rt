@@ -50,7 +50,7 @@ pub(crate) fn discrepancy(
 }
 
 // What goes from step to step: the locator, the one before it last grew, its degree, the steps since it grew, and the discrepancy then.
-#[derive(Drop)]
+#[derive(Clone, Copy)]
 pub struct State {
     pub loc: [u8; 7],
     pub old: [u8; 7],

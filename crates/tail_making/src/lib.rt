@@ -1,5 +1,8 @@
 // Makes a word's tail, for the crate `tail`, which names the call, and for `voice_words`: six bytes, their CRC-16 and six parity bytes.
 // The definitions are in crate `tail_rules`, specs/Encode.antt, what they mean in specs/MakingStatements.antt.
+
+#![tactic(auto)]
+
 ghost use Rattle.std.specs.Prelude.{◌≡◌};
 ghost use Rattle.tail_rules.specs.Encode.{encode_answer, encode_leaves};
 

@@ -1,5 +1,8 @@
 // Makes the six parity bytes of a tail, for the crate `tail_making`: the remainder that a register over the generator leaves, as crate `tail_rules` defines it
 // in specs/Encode.antt. `powers` and `logs` are the field's lent tables.
+
+#![tactic(auto)]
+
 ghost use Rattle.std.specs.Prelude.{◌≡◌};
 ghost use Rattle.field.specs.Lent.{Powers, Logs};
 ghost use Rattle.tail_rules.specs.Encode.{generator_of, registered, parity_of};

@@ -79,7 +79,7 @@ fn marked(v: [u8; 14], es: &[u8]) -> [u8; 14]
 }
 
 // Whether a repair may succeed, and the marks: 0 at each place that may be wrong.
-#[derive(Drop)]
+#[derive(Clone, Copy)]
 pub struct Found {
     pub ok: bool,
     pub marks: [u8; 14],

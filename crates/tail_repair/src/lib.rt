@@ -1,5 +1,8 @@
 // Repairs a tail by value, with the field's tables lent: for `voice_hard` and `voice_candidates`, which repair many tails, and for the calls of `tail`.
 // What is right is in crate `tail_rules`, specs/Repair.antt: the codeword near the tail, and the number of bytes in which it differs.
+
+#![tactic(auto)]
+
 ghost use Rattle.std.specs.Prelude.{◌≡◌, [], ◌≤◌, length};
 ghost use Rattle.bits.specs.Bit.{Below, Bytes};
 ghost use Rattle.field.specs.Lent.{Powers, Logs};
@@ -28,7 +31,7 @@ fn changed(t: [u8; 14], c: [u8; 14]) -> usize
 }
 
 // A repair's answer, and the tail beside it: the codeword, or all zero when refused.
-#[derive(Drop)]
+#[derive(Clone, Copy)]
 pub struct RepairedTail {
     pub answer: Repairing,
     pub tail: [u8; 14],

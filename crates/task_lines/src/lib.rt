@@ -1,5 +1,8 @@
 // Carries out the programs `listing` and `slips`: reads packed dibits from an open file, and writes the lines of their frames to standard output. Here is only
 // the loop that reads, calls and writes; what the lines say is promised by crate `recorder_lines`, and no decoder is needed for it.
+
+#![tactic(auto)]
+
 ghost use Rattle.std.specs.Prelude.{[], ◌^◌, ◌≤◌};
 ghost use Rattle.task_lines.specs.Runs.{Lines, Listed};
 
@@ -11,7 +14,7 @@ use recorder_steps::start;
 use texts_printing::print_behind;
 
 // What is left of a whole input: how it ended, how many bytes were read and sent, and the recorder.
-#[derive(Drop)]
+#[derive(Clone, Copy)]
 pub struct Run {
     pub going: Going,
     pub read: u64,

@@ -1,5 +1,8 @@
 // Carries out the program `merge`: reads two packed recordings of the same time from open files, and writes the journal of their merged frames to standard
 // output. Here is only the loop that reads, calls and writes; what the records say is promised by crate `merge_recorder`.
+
+#![tactic(auto)]
+
 ghost use Rattle.std.specs.Prelude.{false, not, [], ◌≡◌, ◌^◌, ◌≤◌};
 ghost use Rattle.frame_outcomes.specs.Outcomes.{tried_of};
 ghost use Rattle.intake.specs.Pieces.{SoundCursor, is_on};
@@ -16,7 +19,7 @@ use merge_recorder::{MergeRecorder, MergeStepped, flush, start, step};
 use sync_inputs::Push;
 
 // What is left of two whole recordings: how each ended and how many bytes of it were read, how many bytes were sent, and the recorder.
-#[derive(Drop)]
+#[derive(Clone, Copy)]
 pub struct Merged {
     pub primary: Cursor,
     pub alternate: Cursor,

@@ -1,5 +1,8 @@
 // Carries out the programs `record` and `speech`: reads packed dibits from an open file, and writes the records of their frames, or the lines of their speech,
 // to standard output. Here is only the loop that reads, calls and writes; what the bytes say is promised by crate `recorder`.
+
+#![tactic(auto)]
+
 ghost use Rattle.std.specs.Prelude.{◌≡◌, [], ◌^◌, ◌≤◌};
 ghost use Rattle.recorder_asks.specs.Asks.{making_of};
 ghost use Rattle.texts_rules.specs.Text.{line_of};
@@ -12,7 +15,7 @@ use texts_printing::print_behind;
 use texts_rules::Line;
 
 // What is left of a whole input: how it ended, how many bytes were read and sent, how many frames were accepted, and the recorder.
-#[derive(Drop)]
+#[derive(Clone, Copy)]
 pub struct Run {
     pub going: Going,
     pub read: u64,

@@ -1,5 +1,8 @@
 // Carries out the program `show`: reads a journal from an open file, and writes a line for each record to standard output. Here is only the loop that reads and
 // calls; what is printed and counted of a record is promised by crate `show_turns`.
+
+#![tactic(auto)]
+
 ghost use Rattle.std.specs.Prelude.{◌≡◌};
 ghost use Rattle.show_turns.specs.Turns.{Countable};
 ghost use Rattle.task_show.specs.Runs.{came_as, goes_on, none_shown, Turned, ShowsAll};

@@ -1,6 +1,9 @@
 // A line of text as a value: words and numbers are put into it from left to right.
 // building.rt makes a longer line of a line, digits.rt has the hexadecimal digits; crate `texts_printing` writes a line.
 // What a line and a number's text are is defined in crate `texts_rules`, what each line says in `lines_rules`.
+
+#![tactic(auto)]
+
 mod building;
 mod digits;
 

@@ -1,49 +1,53 @@
 // Writes a line to standard output or standard error. No contract can say what is written; the line's text is its maker's promise.
+
+#![tactic(auto)]
+
 ghost use Rattle.std.specs.Prelude.{◌≡◌, false, ◌+◌, ◌^◌, ◌<◌, ◌≤◌};
 ghost use Rattle.channels.specs.Sending.{PutBy};
 
-use channels::{Sent, put};
+use channels::{Desk, Sent, complain, put, write_whole};
+use std::io::Write;
+use std::rt::Clock;
 use texts_rules::Line;
 
-// Writes the first `size` of the bytes to an open file, and answers whether all of them were taken; where there are not so many it writes nothing.
-fn write_first(fd: i32, bytes: [u8; 128], size: usize) -> bool
-    ensures { 128 < size → result ≡ false }
-{
-    if size > 128 {
-        return false;
-    }
-    channels::write_whole(fd, &bytes[..size])
-}
-
-// Writes the line to standard output, and answers whether all of it was taken: never of a line that says to be longer than its bytes. Where a write fails it
-// says `cannot write` and the reason on standard error.
-pub fn print(line: Line) -> bool
+// Writes the line to standard output, and answers whether all of it was taken: never of a line that says to be longer than its bytes, of which nothing is
+// written. Where a write fails it says `cannot write` and the reason on standard error.
+pub fn print<W: Write, E: Write, C: Clock>(line: Line, desk: &mut Desk<W, E, C>) -> bool
     ensures { 128 < line.size → result ≡ false }
 {
     let bytes = line.bytes;
-    write_first(1, bytes, line.size)
+    line.size <= 128 && write_whole(&bytes[..line.size], desk)
 }
 
 // Writes the line to standard error, and answers as `print` does.
-pub fn print_error(line: Line) -> bool
+pub fn print_error<W: Write, E: Write, C: Clock>(line: Line, desk: &mut Desk<W, E, C>) -> bool
     ensures { 128 < line.size → result ≡ false }
 {
     let bytes = line.bytes;
-    write_first(2, bytes, line.size)
+    line.size <= 128 && complain(&bytes[..line.size], &mut desk.errors, &desk.clock)
 }
 
 // Writes the first `size` of the bytes to standard output, behind what was sent before.
-fn put_first(sent: Sent, bytes: [u8; 128], size: usize) -> Sent
+fn put_first<W: Write, E: Write, C: Clock>(
+    sent: Sent,
+    bytes: [u8; 128],
+    size: usize,
+    desk: &mut Desk<W, E, C>,
+) -> Sent
     requires fact_1 { sent.bytes + 128 < 2 ^ 64 }
     requires fact_2 { size ≤ 128 }
     ensures { PutBy size sent result }
 {
-    put(sent, 1, &bytes, size)
+    put(sent, &bytes, size, desk)
 }
 
 // Writes the line to standard output behind what was sent before, and counts it; nothing is written behind a hole, nor of a line that says to be longer than
 // its bytes.
-pub fn print_behind(sent: Sent, line: Line) -> Sent
+pub fn print_behind<W: Write, E: Write, C: Clock>(
+    sent: Sent,
+    line: Line,
+    desk: &mut Desk<W, E, C>,
+) -> Sent
     requires { sent.bytes + 128 < 2 ^ 64 }
     ensures put { line.size ≤ 128 → PutBy line.size sent result }
     ensures longer { 128 < line.size → result ≡ record { bytes = sent.bytes; whole = false } }
@@ -55,5 +59,5 @@ pub fn print_behind(sent: Sent, line: Line) -> Sent
         };
     }
     let bytes = line.bytes;
-    put_first(sent, bytes, line.size)
+    put_first(sent, bytes, line.size, desk)
 }

@@ -1,9 +1,12 @@
 // What a line of text is, and the text of a number. There is no code here: the type of which the definitions speak, and an empty function that carries the
 // theorem, so that it cannot vanish. specs/Text.antt says which line has a text, specs/Decimal.antt a number's text.
+
+#![tactic(auto)]
+
 ghost use Rattle.texts_rules.specs.Statements.{Decimals};
 
 // A line: how many bytes it has, and the bytes, with zeros behind them.
-#[derive(Drop)]
+#[derive(Clone, Copy)]
 pub struct Line {
     pub size: usize,
     pub bytes: [u8; 128],

@@ -3,6 +3,9 @@
 //
 // The words stand in a row, the received one first (specs/Row.antt). A repair writes the next one; where it fails, the repair after it writes over it. So
 // the words before the one that is tried are the candidates that were there before.
+
+#![tactic(auto)]
+
 ghost use Rattle.std.specs.Prelude.{◌≡◌, [], ◌∷◌, ◌<◌, ◌≤◌, length, drop};
 ghost use Rattle.bits.specs.Bit.{Below};
 ghost use Rattle.field.specs.Lent.{Powers, Logs};

@@ -1,4 +1,7 @@
 // The candidate check, which alone accepts, and the tests of mode, repair and CRC-16 that stand before it.
+
+#![tactic(auto)]
+
 ghost use Rattle.std.specs.Prelude.{◌≡◌, [], ◌∷◌, ◌+◌, ◌*◌, ◌≤◌, ◌<◌, get_or, length, take, drop};
 ghost use Rattle.bits.specs.Bit.{sum};
 ghost use Rattle.coding_rules.specs.Crc.{crc_of};

@@ -1,4 +1,7 @@
 // The voice frame's encoder and its hard decoder. Their answers are defined in the crate `voice_rules`; here is the code that gives them.
+
+#![tactic(auto)]
+
 ghost use Rattle.std.specs.Prelude.{◌≡◌, cond, length};
 ghost use Rattle.protected_rules.specs.Table.{Admitted};
 ghost use Rattle.voice_rules.specs.Calls.{encode_answer, encode_leaves, decode_answer};

@@ -1,5 +1,8 @@
 // Tries the hard stages in their order. What is read from the word (its coded bits, the inverse filter's input, whether its mode is valid) is read once and
 // lent; one path search serves (c) and (d).
+
+#![tactic(auto)]
+
 ghost use Rattle.std.specs.Prelude.{◌≡◌, [], ◌∷◌, drop};
 ghost use Rattle.field.specs.Lent.{Powers, Logs};
 ghost use Rattle.protected_rules.specs.Convolution.{Input, inverted};

@@ -1,5 +1,8 @@
 // Searches the path over the 256 states of the code, hard and weighted: one search, whose costs are exact. Its step is in the crate `voice_path_steps`. What it
 // finds is defined in the crate `voice_path_rules` (specs/Path.antt), and so is what that means (specs/Nearest.antt).
+
+#![tactic(auto)]
+
 ghost use Rattle.std.specs.Prelude.{◌≡◌, ℕ, ◌+◌, ◌*◌, ◌<◌, get_or};
 ghost use Rattle.bits.specs.Bit.{bit_lo, Bits};
 ghost use Rattle.protected_rules.specs.Table.{Admitted};

@@ -1,5 +1,8 @@
 // Takes one step of the path search, over the costs of the 256 states: it looks at pairs of states, since the two ways into 2 p and into 2 p + 1 start from the
 // same two prior states. What a step is to find is defined in the crate `voice_path_rules` (specs/Path.antt).
+
+#![tactic(auto)]
+
 ghost use Rattle.std.specs.Prelude.{◌≡◌, cond, ℕ, ◌*◌, ◌^◌, ◌<◌, ◌≤◌, get_or, ltb};
 ghost use Rattle.bits.specs.Bit.{tab};
 ghost use Rattle.voice_path_rules.specs.Path.{disagree, weigh};
@@ -9,7 +12,7 @@ use protected_rules::{EVEN_MASK, ODD_MASK};
 use voice_path_rules::Seen;
 
 // The costs of two neighbouring states, and which of its two ways each has come.
-#[derive(Drop)]
+#[derive(Clone, Copy)]
 pub struct Pair {
     pub even: u32,
     pub odd: u32,
@@ -18,7 +21,7 @@ pub struct Pair {
 }
 
 // The costs after a step, and the survivor bits of its row.
-#[derive(Drop)]
+#[derive(Clone, Copy)]
 pub struct Stepped {
     pub next: [u32; 256],
     pub chosen: [u8; 256],

@@ -1,5 +1,8 @@
 // What the 384 reliabilities of an envelope say: the weights of the coded bits, and the tail bytes in the order of their least reliable bit. What is
 // right is in crate `voice_rules`, specs/Soft.antt. Between crates: that there are 384 of them is tested in `voice_soft`.
+
+#![tactic(auto)]
+
 ghost use Rattle.std.specs.Prelude.{◌≡◌, cond, ◌+◌, ◌*◌, ◌<◌, min, ltb, length, get_or};
 ghost use Rattle.bits.specs.Bit.{Below};
 ghost use Rattle.voice_rules.specs.Soft.{reliability, weights_of, least, tail_keys, earliest, least_places};

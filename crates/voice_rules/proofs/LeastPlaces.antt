@@ -166,7 +166,7 @@ place_at keys n i = get_or (least_places keys n) i 0
 length_places : (keys : List ℕ) (n : ℕ) → length (least_places keys n) ≡ n
 unfolding least_places
 length_places keys zero = refl
-length_places keys (suc n) = ap suc (length_places _ n)
+length_places keys (suc n) = ap suc (length_places (set keys (earliest keys 14) 256) n)
 
 places_free : (keys : List ℕ) (n : ℕ) → Left keys n → (i : ℕ) → i < n → (place_at keys n i < 14) × (get_or keys (place_at keys n i) 0 < 256)
 unfolding least_places pick rest

@@ -1,5 +1,8 @@
 // The voice frame's decoding as definitions: the encoder's word, the candidate check, each attempt of each stage as a trial, and what the
 // public calls of `voice_frame` and `voice_soft` answer. There is no code here but the types of those answers; the theorems stand at the end.
+
+#![tactic(auto)]
+
 ghost use Rattle.voice_rules.specs.LimitTable.{LimitTable};
 ghost use Rattle.voice_rules.specs.Nearest.{NearestTried};
 ghost use Rattle.voice_rules.specs.SoftLaws.{SoftLaws};
@@ -15,7 +18,7 @@ pub use limits::{
 };
 
 // Names the stage that accepts: (a) to (d) are document 01's hard ones.
-#[derive(Drop)]
+#[derive(Clone, Copy)]
 pub enum Stage {
     StageA,
     StageB,
@@ -25,7 +28,7 @@ pub enum Stage {
 }
 
 // Names what a trial tests, in the order of document 02's list (A2).
-#[derive(Drop)]
+#[derive(Clone, Copy)]
 pub enum Test {
     ModeBits,
     Repair,
@@ -41,14 +44,14 @@ pub enum Test {
 }
 
 // A decoding's answer: the stage that accepted and the corrected bits, or the refusal.
-#[derive(Drop)]
+#[derive(Clone, Copy)]
 pub enum Decoding {
     Accepted(Stage, u32),
     Refused(Refusal),
 }
 
 // The answer, and the payload beside it: all zero when refused.
-#[derive(Drop)]
+#[derive(Clone, Copy)]
 pub struct Decoded {
     pub decoding: Decoding,
     pub payload: [u8; 20],

@@ -1,5 +1,8 @@
 // The voice frame's soft decoder: hard decoding first, then the candidates of a weighted search (crate `voice_candidates`). Its answer is defined in the
 // crate `voice_rules`.
+
+#![tactic(auto)]
+
 ghost use Rattle.std.specs.Prelude.{◌≡◌};
 ghost use Rattle.field.specs.Lent.{Powers, Logs};
 ghost use Rattle.protected_rules.specs.Table.{Admitted};

@@ -1,4 +1,7 @@
 // What the parts of the decoder hand to each other: a speech with the stage that heard it, or silence; and the answer that becomes of it.
+
+#![tactic(auto)]
+
 ghost use Rattle.std.specs.Prelude.{◌≡◌};
 ghost use Rattle.voice_rules.specs.Calls.{refused_by};
 ghost use Rattle.voice_speech.specs.Heard.{silence, is_repaired, answer_to};
@@ -8,7 +11,7 @@ use tail_rules::Repairing;
 use voice_rules::{Decoded, Decoding, Stage};
 
 // A speech with the stage that heard it, or silence: then all else is zero.
-#[derive(Drop)]
+#[derive(Clone, Copy)]
 pub struct Speech {
     pub accepted: bool,
     pub stage: Stage,

@@ -1,4 +1,7 @@
 // Makes the attempts of the hard stages: (a) and (c) on the word itself, (b) on the word with its tail repaired, (d) on the word that the input makes.
+
+#![tactic(auto)]
+
 ghost use Rattle.std.specs.Prelude.{◌≡◌, [], ◌∷◌, ◌-◌};
 ghost use Rattle.field.specs.Lent.{Powers, Logs};
 ghost use Rattle.voice_path_rules.specs.Path.{searched};

@@ -1,4 +1,7 @@
 // A word of 42 bytes: taken out of its envelope, put together from coded bits, mode and tail, and measured against another word.
+
+#![tactic(auto)]
+
 ghost use Rattle.std.specs.Prelude.{◌≡◌, ◌++◌, length, take, drop};
 ghost use Rattle.bits.specs.Bit.{Bits, Bytes};
 ghost use Rattle.coding_rules.specs.Scramble.{descrambled};

@@ -1,9 +1,0 @@
-use Rattle.merger_rules.proofs.SoundCalls.{start_sound, push_sound, release_sound}
-use Rattle.merger_rules.proofs.reached.Statement.{statement}
-use Rattle.merger_rules.proofs.reached.Tie as tie
-
-returns : tie.Need-returns
-returns c = record { start = start_sound; pushed = push_sound; released = λ s₀ s₁ flush v g. release_sound s₀ s₁ flush v.pending v.last g }
-
-pub reached-spec : {M : Type 1} → statement M
-reached-spec = tie.close (tie.spec returns)

@@ -1,0 +1,60 @@
+-- `spelled`: after i turns `value` is what the first i bits spell, and `at` is the place of the next one.
+-- Assumes nothing.
+use Prim.Native.Nat.{ℕ, ◌-◌, ◌<◌}
+use mathlib.Core.Path.{◌≡◌, refl, ap, ◌∙◌}
+use mathlib.Core.List.{List}
+use mathlib.Core.Logic.{⊎_elim}
+use native.Mathlib.Omega.{arith}
+use borrow.Author.Rules.{rules}
+use lib.Pow.{pow_mono}
+use lib.ListN.{get_or}
+use Rattle.sync_rules.specs.Ring.{ring}
+use Rattle.bits.specs.Bit.{Bits}
+use Rattle.sync_rules.specs.Matching.{spell}
+use Rattle.sync_rules.proofs.Rings.{spell_lt, spell_more}
+use Rattle.sync_spelling.proofs.spelled.Goals as goal
+use Rattle.sync_spelling.proofs.spelled.Goals.{then-at-eq-MOST_HELD, else-at-eq-MOST_HELD}
+
+-- fifteen bits or fewer
+below : (bits : List ℕ) (from i v : ℕ) → Bits bits → i < 16 → v ≡ spell 0 (ring bits from i) → v < 32768
+below bits from i v b h e = omega (arith, spell_lt bits from i b, pow_mono {i = i} {j = 15} (omega arith))
+
+pub loop-i-init : goal.loop-i-init
+unfolding spell ring
+loop-i-init c = (search rules, omega arith, refl)
+
+pub overflow_mul-value : goal.overflow_mul-value
+overflow_mul-value c =
+    let l = c.loop-i in
+    let v : l.value < 32768 = below c.args.bits.now c.args.from l.i l.value c.requires.fact_1 (omega arith) l.invariant.2 in
+    record { fits = omega arith }
+
+pub overflow_add-value : goal.overflow_add-value
+overflow_add-value c =
+    let l = c.loop-i in
+    let v : l.value < 32768 = below c.args.bits.now c.args.from l.i l.value c.requires.fact_1 (omega arith) l.invariant.2 in
+    record { fits = omega (arith, c.wide.ensures, c.requires.fact_1.at l.at) }
+
+pub overflow_add-at : goal.overflow_add-at
+overflow_add-at c = record { fits = omega arith }
+
+pub returns : goal.returns
+returns c =
+    c.loop-i.invariant.2 ∙ ap (λ (n : ℕ). spell 0 (ring c.args.bits.now c.args.from n)) (omega arith)
+
+pub bounds-bits-at : goal.bounds-bits-at
+bounds-bits-at c = omega arith
+
+pub overflow_add-i : goal.overflow_add-i
+overflow_add-i c = omega arith
+
+pub loop-i-smaller : goal.loop-i-smaller
+loop-i-smaller c = omega arith
+
+pub loop-i-preserved : goal.loop-i-preserved
+loop-i-preserved c =
+    let l = c.loop-i in (
+      omega arith,
+      elim c.if-at-eq-MOST_HELD.branch [ then-at-eq-MOST_HELD w ↦ omega arith | else-at-eq-MOST_HELD w ↦ omega arith ],
+      omega (arith, spell_more c.args.bits.now c.args.from l.i, c.wide.ensures, ap (λ (k : ℕ). get_or c.args.bits.now k 0) l.invariant.1),
+    )
