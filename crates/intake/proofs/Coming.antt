@@ -1,7 +1,7 @@
 -- What a read and a step make of a cursor, by cases.
 -- Assumes nothing.
 use mathlib.Core.Path.{◌≡◌, refl, sym, ap, ◌∙◌, subst}
-use mathlib.Core.Logic.{◌⊎◌, inl, inr, ⊎_elim}
+use mathlib.Core.Logic.{⊎_elim}
 use mathlib.Core.Bool.{Bool, true, false, not, true≢false}
 use mathlib.Core.List.{List}
 use Prim.Native.Nat.{ℕ, ◌+◌, ◌*◌, ◌≤◌, ◌<◌}
@@ -44,11 +44,11 @@ unwritten_no false e = refl
 unwritten_no true e = absurd (true≢false (sym e))
 
 -- a yes that was not taken back, and one that was
-pub was_on : {b : Bool} (g : Going) → not b ≡ false → b ≡ is_on g → is_on g ≡ true
-was_on g e f = sym f ∙ written _ e
+pub was_on : {b : Bool} (g : Going) → b ≡ true → b ≡ is_on g → is_on g ≡ true
+was_on g e f = sym f ∙ e
 
-pub was_off : {b : Bool} (g : Going) → not b ≡ true → b ≡ is_on g → is_on g ≡ true → ⊥
-was_off g e f h = true≢false (sym h ∙ sym f ∙ unwritten_no _ e)
+pub was_off : {b : Bool} (g : Going) → b ≡ false → b ≡ is_on g → is_on g ≡ true → ⊥
+was_off g e f h = true≢false (sym h ∙ sym f ∙ e)
 
 -- ---- behind a step
 
@@ -105,7 +105,7 @@ beside_full false g e = absurd (omega (arith, ap numbered e))
 came_in : (k : ℕ) (i : Intake) (buffer : List ℕ) → CameInto buffer i → SoundCursor (came_as k i) buffer
 came_in k (Bytes n) buffer h = record { size = h.1.0; from = omega arith }
 came_in k NoMore buffer h = record { size = omega arith; from = omega arith }
-came_in k Failed buffer h = record { size = omega arith; from = omega arith }
+came_in k (Failed reason) buffer h = record { size = omega arith; from = omega arith }
 
 pub came_sound : (k : ℕ) (i : Intake) (r : Cursor) (buffer : List ℕ) → r ≡ came_as k i → CameInto buffer i → SoundCursor r buffer
 came_sound k i r buffer e h = subst (λ (z : Cursor). SoundCursor z buffer) (sym e) (came_in k i buffer h)
@@ -113,7 +113,7 @@ came_sound k i r buffer e h = subst (λ (z : Cursor). SoundCursor z buffer) (sym
 pub came_few : (i : Intake) (buffer : List ℕ) → CameInto buffer i → size_of i ≤ length buffer
 came_few (Bytes n) buffer h = h.1.0
 came_few NoMore buffer h = omega arith
-came_few Failed buffer h = omega arith
+came_few (Failed reason) buffer h = omega arith
 
 -- what came begins with its first dibit, is counted, and has a byte where the stream goes on; where the file has ended there is none
 pub record Came (k : ℕ) (r : Cursor) : Type 0 where
@@ -126,7 +126,7 @@ pub record Came (k : ℕ) (r : Cursor) : Type 0 where
 came_by : (k : ℕ) (i : Intake) (buffer : List ℕ) → CameInto buffer i → Came k (came_as k i)
 came_by k (Bytes n) buffer h = record { front = refl; counted = refl; some = λ e. h.0; none = λ e. absurd (omega (arith, ap numbered e)); room = λ e. omega (arith, ap numbered e) }
 came_by k NoMore buffer h = record { front = refl; counted = omega arith; some = λ e. absurd (true≢false (sym e)); none = λ e. refl; room = λ e. omega (arith, ap numbered e) }
-came_by k Failed buffer h = record { front = refl; counted = omega arith; some = λ e. absurd (true≢false (sym e)); none = λ e. refl; room = λ e. omega (arith, ap numbered e) }
+came_by k (Failed reason) buffer h = record { front = refl; counted = omega arith; some = λ e. absurd (true≢false (sym e)); none = λ e. refl; room = λ e. omega (arith, ap numbered e) }
 
 pub came_as_lem : (after : List ℕ) (c r : Cursor) → NewPiece after c r → Came c.read r
 came_as_lem after c r n = subst (λ (z : Cursor). Came c.read z) (sym n.next) (came_by c.read n.came after n.into)

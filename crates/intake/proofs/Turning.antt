@@ -3,14 +3,14 @@
 use mathlib.Core.Path.{◌≡◌, sym, ◌∙◌, subst}
 use mathlib.Core.Bool.{true, false}
 use mathlib.Core.List.{List, []}
-use Prim.Native.Nat.{ℕ, suc, ◌+◌, ◌-◌, ◌*◌, ◌^◌, ◌≤◌, ◌<◌}
+use Prim.Native.Nat.{ℕ, suc, ◌+◌, ◌-◌, ◌^◌, ◌≤◌, ◌<◌}
 use native.Mathlib.Omega.{arith}
 use lib.ListN.{length}
 use Rattle.channels.specs.Sending.{none_sent, PutBy}
 use Rattle.channels.specs.declared.writing.Sent.{Sent}
 use Rattle.recorder_rules.specs.Makings.{Making, Sequential}
 use Rattle.recorder_rules.specs.Statements.{Fresh}
-use Rattle.recorder_rules.specs.Steps.{ValidRecorder, SteppedBy}
+use Rattle.recorder_rules.specs.Steps.{SteppedBy}
 use Rattle.recorder_rules.specs.declared.Recorder.{Recorder}
 use Rattle.recorder_rules.specs.declared.Stepped.{Stepped}
 use Rattle.intake.specs.Heard.{Hearing, Limited, Ran, most_turns, rest_in}

@@ -50,7 +50,7 @@ pub record SoundCursor (c : Cursor) (buffer : List ℕ) : Type 0 where
 abbrev pub came_as : ℕ → Intake → Cursor
 came_as bytes (read.Bytes n) = cursor_at n 0 (bytes + n) On
 came_as bytes read.Ended = cursor_at 0 0 bytes Ended
-came_as bytes read.Failed = cursor_at 0 0 bytes Broken
+came_as bytes (read.Failed reason) = cursor_at 0 0 bytes Broken
 
 -- another piece was read: the stream went on, all dibits of the last one were used, and the cursor is that of what the read gave
 pub record NewPiece (after : List ℕ) (c r : Cursor) : Type 0 where

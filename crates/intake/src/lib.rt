@@ -1,4 +1,4 @@
-// Which bytes of an open file are handed on next. What a read gives is a piece, however short, and is handed on at once: its dibits are used up before the next
+// Which bytes of an input are handed on next. What a read gives is a piece, however short, and is handed on at once: its dibits are used up before the next
 // read. A cursor goes from call to call by value; the piece lies at the front of lent memory.
 //
 // specs/Pieces.antt says what a cursor is and what a read does to it, specs/Heard.antt that the dibits handed to a recorder are those of the bytes read.
@@ -10,7 +10,9 @@ ghost use Rattle.channels.specs.Moving.{size_of};
 ghost use Rattle.intake.specs.Heard.{heard_whole};
 ghost use Rattle.intake.specs.Pieces.{cursor_at, is_on, is_broken, going_after, going_beside, ended_by, SoundCursor, RefilledBy, came_as};
 
-use channels::{Intake, read_some};
+use channels::{Desk, Intake, read_some};
+use std::io::{Read, Write};
+use std::rt::Clock;
 use sync_inputs::Push;
 
 // Whether a stream goes on; has ended with its file; is full, since the synchroniser has refused a dibit; or broke off: a read or a write has failed, and
@@ -86,12 +88,17 @@ fn came(read: u64, intake: Intake) -> Cursor
     match intake {
         Intake::Bytes(n) => piece_of(n, read + n as u64, Going::On),
         Intake::Ended => piece_of(0, read, Going::Ended),
-        Intake::Failed => piece_of(0, read, Going::Broken),
+        Intake::Failed(_) => piece_of(0, read, Going::Broken),
     }
 }
 
 // Reads the next piece where the stream goes on and all dibits of the last one are used; else it gives the cursor as it is.
-pub fn refilled(c: Cursor, fd: i32, buf: &mut [u8]) -> Cursor
+pub fn refilled<R: Read, W: Write, E: Write, C: Clock>(
+    c: Cursor,
+    from: &mut R,
+    buf: &mut [u8],
+    desk: &mut Desk<W, E, C>,
+) -> Cursor
     requires fact_1 { SoundCursor c buf.old }
     requires fact_2 { length buf.old ≤ 4096 }
     requires fact_3 { c.read + 4096 < 2 ^ 64 }
@@ -106,11 +113,15 @@ pub fn refilled(c: Cursor, fd: i32, buf: &mut [u8]) -> Cursor
     if c.from < 4 * c.size {
         return c;
     }
-    came(c.read, read_some(fd, buf))
+    came(c.read, read_some(from, buf, desk))
 }
 
 // Tells whether a stream goes on behind a step: not where what it made could not be written, nor where a push was refused, which it says by its number.
-fn goes_behind(written: bool, answer: Push) -> Going
+fn goes_behind<W: Write, E: Write, C: Clock>(
+    written: bool,
+    answer: Push,
+    desk: &mut Desk<W, E, C>,
+) -> Going
     ensures { result ≡ going_after written answer }
 {
     if !written {
@@ -119,14 +130,20 @@ fn goes_behind(written: bool, answer: Push) -> Going
     match answer {
         Push::Taken => Going::On,
         Push::Refused(refusal) => {
-            texts_printing::print_error(lines::refusal_line(refusal));
+            texts_printing::print_error(lines::refusal_line(refusal), desk);
             Going::Full
         }
     }
 }
 
 // Gives the cursor behind a step that used so many dibits, whether what it made was written, and what its last push answered.
-pub fn advanced(c: Cursor, used: usize, written: bool, answer: Push) -> Cursor
+pub fn advanced<W: Write, E: Write, C: Clock>(
+    c: Cursor,
+    used: usize,
+    written: bool,
+    answer: Push,
+    desk: &mut Desk<W, E, C>,
+) -> Cursor
     requires { c.from + used ≤ 16384 }
     ensures { result ≡ cursor_at c.size (c.from + used) c.read (going_after written answer) }
 {
@@ -134,7 +151,7 @@ pub fn advanced(c: Cursor, used: usize, written: bool, answer: Push) -> Cursor
         size: c.size,
         from: c.from + used,
         read: c.read,
-        going: goes_behind(written, answer),
+        going: goes_behind(written, answer, desk),
     }
 }
 

@@ -2,7 +2,10 @@
 ghost use Rattle.std.specs.Prelude.{◌≡◌, ◌≤◌, length};
 ghost use Rattle.replay_list.specs.Windows.{Within, input_in};
 
+use channels::fill;
 use replay_bytes::pair;
+use std::io::Read;
+use std::rt::Clock;
 
 // No input and no answer of a case is longer.
 const MOST_BYTES: usize = 4000;
@@ -78,18 +81,29 @@ fn move_front(window: &mut [u8], at: usize, end: usize)
     }
 }
 
-// Moves what is left to the front and reads on behind it. Answers where the bytes read end.
-fn filled(window: &mut [u8], at: usize, end: usize) -> usize
+// Moves what is left to the front and reads on behind it, until the window is full, the list ends or a read fails. Answers where the bytes read end.
+fn filled<R: Read, C: Clock>(
+    window: &mut [u8],
+    at: usize,
+    end: usize,
+    from: &mut R,
+    clock: &C,
+) -> usize
     requires { (at ≤ end) × (end ≤ length window.old) }
     ensures { result ≤ length window.new }
 {
     let left = end - at;
     move_front(&mut *window, at, end);
-    left + io::read_full(0, &mut window[left..])
+    left + fill(from, &mut window[left..], clock).bytes
 }
 
 // Finds the case behind `before`; where the window has no whole one, once more with the window filled up.
-pub fn case_after(window: &mut [u8], before: Case) -> Case
+pub fn case_after<R: Read, C: Clock>(
+    window: &mut [u8],
+    before: Case,
+    from: &mut R,
+    clock: &C,
+) -> Case
     requires { Within (length window.old) before }
     ensures { Within (length window.new) result }
 {
@@ -98,7 +112,7 @@ pub fn case_after(window: &mut [u8], before: Case) -> Case
     if c.kind != 0 {
         return c;
     }
-    let end = filled(&mut *window, at, before.end);
+    let end = filled(&mut *window, at, before.end, from, clock);
     case_at(&*window, 0, end)
 }
 

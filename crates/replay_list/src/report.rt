@@ -1,39 +1,60 @@
 // Prints differences, and the last line.
 use crate::tally::Tally;
+use channels::send;
+use std::io::Write;
+use std::rt::Clock;
 
 // Prints bytes, two hexadecimal digits each.
-fn print_all_hex(bytes: &[u8]) {
+fn print_all_hex<W: Write, C: Clock>(bytes: &[u8], to: &mut W, clock: &C) {
     for i in 0..bytes.len() {
-        io::print_hex(1, bits::wide(bytes[i]) as u64, 2);
+        let mut digits = [0u8; 16];
+        let n = io::hex(bits::wide(bytes[i]) as u64, 2, &mut digits);
+        send(to, &digits[..n], clock);
     }
 }
 
 // Prints a word and a number behind it.
-fn print_number(word: &[u8], n: u64) {
-    io::write_all(1, word);
-    io::print_decimal(1, n);
+fn print_number<W: Write, C: Clock>(word: &[u8], n: u64, to: &mut W, clock: &C) {
+    let mut digits = [0u8; 20];
+    let size = io::decimal(n, &mut digits);
+    send(to, word, clock);
+    send(to, &digits[..size], clock);
 }
 
 // Prints a case that differs: its number, its kind, the expected answer and the one that was given, `size` bytes of `out`.
-pub(crate) fn difference(number: u64, kind: u8, expected: &[u8], out: &[u8], size: usize) {
-    print_number(b"difference ", number);
-    print_number(b" ", bits::wide(kind) as u64);
-    io::write_all(1, b" expected ");
-    print_all_hex(expected);
-    io::write_all(1, b" found ");
+pub(crate) fn difference<W: Write, C: Clock>(
+    number: u64,
+    kind: u8,
+    expected: &[u8],
+    out: &[u8],
+    size: usize,
+    to: &mut W,
+    clock: &C,
+) {
+    print_number(b"difference ", number, to, clock);
+    print_number(b" ", bits::wide(kind) as u64, to, clock);
+    send(to, b" expected ", clock);
+    print_all_hex(expected, to, clock);
+    send(to, b" found ", clock);
     if size <= out.len() {
-        print_all_hex(&out[0..size]);
+        print_all_hex(&out[0..size], to, clock);
     }
-    io::write_all(1, b"\n");
+    send(to, b"\n", clock);
 }
 
 // Prints the counts where the list has ended, with nothing left in the window; else that it is bad, and the number of the case where it is.
-pub(crate) fn last_line(left: usize, number: u64, t: Tally) {
+pub(crate) fn last_line<W: Write, C: Clock>(
+    left: usize,
+    number: u64,
+    t: Tally,
+    to: &mut W,
+    clock: &C,
+) {
     if left == 0 {
-        print_number(b"cases ", t.cases);
-        print_number(b" differences ", t.differences);
+        print_number(b"cases ", t.cases, to, clock);
+        print_number(b" differences ", t.differences, to, clock);
     } else {
-        print_number(b"bad list at case ", number);
+        print_number(b"bad list at case ", number, to, clock);
     }
-    io::write_all(1, b"\n");
+    send(to, b"\n", clock);
 }

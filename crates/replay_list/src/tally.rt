@@ -5,6 +5,8 @@ ghost use Rattle.replay_list.specs.Windows.{Within};
 use crate::list::Case;
 use crate::report;
 use replay_bytes::no_case;
+use std::io::Write;
+use std::rt::Clock;
 
 // Says how many cases were run, how many of them differed, and whether to go on: not behind the list's end, nor behind a case that is none.
 #[derive(Clone, Copy)]
@@ -34,13 +36,21 @@ fn same(out: &[u8], size: usize, expected: &[u8]) -> bool {
 
 // Counts a case whose answer has that size, and prints it where it is among the first ten that differ. Where there was none to run, prints the
 // last line: the list has ended, or is bad.
-pub fn judged(t: Tally, window: &[u8], c: Case, out: &[u8], size: usize) -> Tally
+pub fn judged<W: Write, C: Clock>(
+    t: Tally,
+    window: &[u8],
+    c: Case,
+    out: &[u8],
+    size: usize,
+    to: &mut W,
+    clock: &C,
+) -> Tally
     requires { Within (length window.now) c }
 {
     let cases = std::num::wrapping_add_u64(t.cases, 1);
     let differences = t.differences;
     if size == no_case() {
-        report::last_line(c.end, cases, t);
+        report::last_line(c.end, cases, t, to, clock);
         return Tally {
             cases,
             differences,
@@ -48,8 +58,8 @@ pub fn judged(t: Tally, window: &[u8], c: Case, out: &[u8], size: usize) -> Tall
         };
     }
     let from = c.expected;
-    let to = c.next;
-    if same(out, size, &window[from..to]) {
+    let next = c.next;
+    if same(out, size, &window[from..next]) {
         return Tally {
             cases,
             differences,
@@ -57,7 +67,7 @@ pub fn judged(t: Tally, window: &[u8], c: Case, out: &[u8], size: usize) -> Tall
         };
     }
     if differences < 10 {
-        report::difference(cases, c.kind, &window[from..to], out, size);
+        report::difference(cases, c.kind, &window[from..next], out, size, to, clock);
     }
     Tally {
         cases,
