@@ -1,36 +1,28 @@
--- The recorder of two streams refuses too little memory, and nothing is done then; of a stream that is full it says so.
+-- The recorder of two streams refuses too little memory, and nothing is done then.
 -- Assumes nothing.
 use mathlib.Core.Path.{◌≡◌, refl, sym, ap, ◌∙◌, subst}
-use mathlib.Core.Bool.{Bool, true, false, cond, ◌||◌}
+use mathlib.Core.Bool.{Bool, true, false, cond, true≢false}
 use mathlib.Core.List.{List, [], ◌∷◌}
-use Prim.Native.Nat.{ℕ, zero, suc, ◌+◌, ◌≤◌, ◌<◌, min}
+use Prim.Native.Nat.{ℕ, zero, suc, ◌+◌, ◌≤◌, ◌<◌}
 use native.Mathlib.Omega.{arith}
 use borrow.Author.Tests.{ltb-true}
 use lib.Dec.{ltb}
-use lib.ListN.{length, take, drop, length-take}
+use lib.ListN.{length}
 use lib.Seq.{sets}
-use Rattle.bits.specs.declared.Refusal.TheVariants.{FrameRoom, StreamEnd}
-use Rattle.bits.proofs.Conds.{cond_ge}
+use Rattle.bits.specs.declared.Refusal.TheVariants.{FrameRoom}
 use Rattle.journal_rules.specs.Gaps.{Framed, pieces_from}
 use Rattle.journal_rules.specs.declared.Earlier.{Earlier}
-use Rattle.merge_recorder_rules.specs.Steps.{both_of, merge_need, overfull, flushed_in, MergeSteppedBy, MergeFlushedBy}
+use Rattle.merge_recorder_rules.specs.Steps.{both_of, merge_need, flushed_in, MergeSteppedBy, MergeFlushedBy}
 use Rattle.merge_recorder_rules.specs.declared.MergeRecorder.{MergeRecorder}
 use Rattle.merge_recorder_rules.specs.declared.MergeStepped.{MergeStepped}
 use Rattle.merging_rules.specs.Piles.{Pile, Handed, handed}
 use Rattle.merging_rules.specs.Turns.{Both, walk, flushed}
 use Rattle.merging_rules.specs.Works.{pile_of, last_written, bytes_of}
 use Rattle.recorder_rules.specs.Makings.{Trying, rendered}
-use Rattle.sync.specs.View.{view}
-use Rattle.sync_inputs.specs.Answers.{answer_to}
 use Rattle.sync_inputs.specs.declared.Push.{Push}
 use Rattle.sync_inputs.specs.declared.Push.TheVariants.{Taken, Refused}
-use Rattle.sync_rules.specs.Frames.{Frame}
-use Rattle.sync_rules.specs.Pushes.{step}
-use Rattle.sync_rules.specs.Sizes.{room_size}
-use Rattle.sync_rules.specs.State.{State, Input}
-use Rattle.sync_steps.specs.Feeds.{FedOut, one_more, unless_sent, unless_refused, fed_of}
-use Rattle.demands.specs.Demand1.{test, first_number, small_memory, number_in_push, Unmerged, TurnRefuses, MergeStepRefuses, MergeFlushRefuses}
-use Rattle.demands.proofs.RefusedSteps.{step_number}
+use Rattle.sync_rules.specs.State.{Input}
+use Rattle.demands.specs.Demand1.{test, first_number, small_memory, number_in_push, Unmerged, MergeStepRefuses}
 
 by_memory : (b : Bool) → number_in_push (cond b (Refused FrameRoom) Taken) ≡ first_number (test 2 b ∷ [])
 unfolding first_number
@@ -41,54 +33,6 @@ by_memory false = refl
 small : (b : Bool) (a : Push) → a ≡ cond b (Refused FrameRoom) Taken → (number_in_push a ≡ 0 → ⊥) → b ≡ true
 small true a e h = refl
 small false a e h = absurd (h (ap number_in_push e))
-
--- by the memory and by either stream's end
-by_tests : (a b c : Bool) → number_in_push (cond a (Refused FrameRoom) (cond (b || c) (Refused StreamEnd) Taken)) ≡ first_number (test 2 a ∷ test 3 b ∷ test 3 c ∷ [])
-unfolding first_number
-by_tests true b c = refl
-by_tests false true c = refl
-by_tests false false true = refl
-by_tests false false false = refl
-
--- 2 is given for want of memory alone
-wants : (a b : Bool) → number_in_push (cond a (Refused FrameRoom) (cond b (Refused StreamEnd) Taken)) ≡ 2 → a ≡ true
-wants true b e = refl
-wants false true e = absurd (omega arith)
-wants false false e = absurd (omega arith)
-
--- ---- the push of a dibit, or of none
-
-sent_taken : (fs : List Frame) (n : State) → (unless_sent fs n (fed_of room_size [] n)).answer ≡ Taken
-unfolding unless_sent one_more fed_of
-sent_taken [] n = refl
-sent_taken (f ∷ fs) n = refl
-
-module _ (out : List ℕ) (large : merge_need ≤ length out) (m : State) where
-  -- by the answer to a dibit
-  record Answered (a : Push) (o : FedOut) : Type 0 where
-    answer : o.answer ≡ a
-    stays : (number_in_push o.answer ≡ 0 → ⊥) → (o.next ≡ m) × (o.sent ≡ [])
-
-  answered : (x : Input) (a : Push) → Answered a (unless_refused a m (step x m) (fed_of room_size [] (step x m).next))
-  unfolding unless_refused
-  answered x Taken = let t = sent_taken (step x m).sent (step x m).next in record { answer = t; stays = λ h. absurd (h (ap number_in_push t)) }
-  answered x (Refused f) = record { answer = refl; stays = λ h. (refl, refl) }
-
-  one_refuses : (l : List Input) → length l ≤ 1 → TurnRefuses out m l
-  unfolding fed_of first_number
-  one_refuses [] h = record { exactly = refl; as_before = λ n. absurd (n refl) }
-  one_refuses (x ∷ []) h =
-      let o = answered x (answer_to room_size x m) in
-      record {
-        exactly = ap number_in_push o.answer ∙ ap (λ (k : ℕ). number_in_push (answer_to k x m)) (sym (cond_ge (length out) merge_need 0 room_size large)) ∙ step_number merge_need out x [] m;
-        as_before = o.stays;
-      }
-  one_refuses (x ∷ y ∷ l) h = absurd (omega arith)
-
-  turn_refuses : (xs : List Input) (j : ℕ) → TurnRefuses out m (take 1 (drop j xs))
-  turn_refuses xs j = one_refuses (take 1 (drop j xs)) (omega (arith, length-take 1 (drop j xs)))
-
--- ---- a step
 
 no_bytes : (e : Earlier) → bytes_of e [] ≡ []
 unfolding pieces_from rendered
@@ -114,17 +58,12 @@ module _ (try : Trying) (out : List ℕ) (xs : List Input) (over : Bool) (ys : L
         lent = s.stored ∙ ap (sets out 0) bytes;
       }
 
-  pub merge_step : MergeStepRefuses try xs ys r out a out'
+  pub merge_step : MergeStepRefuses r out a out'
   merge_step =
-      let met = overfull (view r.first) (min a.used (length xs)) || overfull (view r.second) (min a.used (length ys)) in
       record {
-        exactly = ap number_in_push s.answer ∙ by_tests (ltb (length out) merge_need) (overfull (view r.first) (min a.used (length xs))) (overfull (view r.second) (min a.used (length ys)));
-        as_before = λ h. unmerged (ltb-true (length out) merge_need (wants (ltb (length out) merge_need) met (sym (ap number_in_push s.answer) ∙ h)));
-        state = s.both;
-        pushes = λ j i. (turn_refuses out (omega (arith, s.before j i)) (walk j try xs ys (both_of r)).both.first xs j, turn_refuses out (omega (arith, s.before j i)) (walk j try xs ys (both_of r)).both.second ys j);
+        exactly = ap number_in_push s.answer ∙ by_memory (ltb (length out) merge_need);
+        as_before = λ h. unmerged (ltb-true (length out) merge_need (small (ltb (length out) merge_need) a.answer s.answer h));
       }
-
--- ---- the flush
 
 module _ (out : List ℕ) (r : MergeRecorder) (a : MergeStepped) (out' : List ℕ) (s : MergeFlushedBy out out' r a) where
   abbrev p : Pile
@@ -145,7 +84,7 @@ module _ (out : List ℕ) (r : MergeRecorder) (a : MergeStepped) (out' : List �
       both : Pile → Both
       both q = record { first = (both_of r).first; second = (both_of r).second; pile = q }
 
-  pub merge_flush : MergeFlushRefuses r out a out'
+  pub merge_flush : MergeStepRefuses r out a out'
   merge_flush =
       record {
         exactly = ap number_in_push s.answer ∙ by_memory (ltb (length out) merge_need);

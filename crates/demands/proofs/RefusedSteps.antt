@@ -31,7 +31,7 @@ small_room_lem need size = go (ltb size need)
     go true = refl
     go false = refl
 
-pub step_number : (need : ℕ) (out : List ℕ) (x : Input) (xs : List Input) (m : State) → number_in_push (answer_to (room_for need (length out)) x m) ≡ first_number (step_tests need out m (x ∷ xs))
+step_number : (need : ℕ) (out : List ℕ) (x : Input) (xs : List Input) (m : State) → number_in_push (answer_to (room_for need (length out)) x m) ≡ first_number (step_tests need out m (x ∷ xs))
 unfolding answer_to
 step_number need out x xs m =
     push_cases (ltb 3 x.dibit) (ltb (room_for need (length out)) 1296) (leb (2 ^ 40) m.figures.taken)

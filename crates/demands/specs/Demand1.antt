@@ -10,7 +10,7 @@
 -- Inputs are not restricted: no call has a `requires` but its state's invariant, which every call that hands out a state ensures. What is lent
 -- only to be read no call can write. That a call ends is said nowhere: a function that may not end is not proved at all.
 -- Assumes nothing.
-use Rattle.std.specs.Prelude.{Bool, true, false, cond, not, ◌&&◌, ◌||◌, List, [], ◌∷◌, ◌++◌, ◌≡◌, ℕ, ◌+◌, ◌^◌, ◌<◌, min, eqb, leb, ltb, length, get_or, take, drop}
+use Rattle.std.specs.Prelude.{Bool, true, false, cond, not, ◌&&◌, ◌||◌, List, [], ◌∷◌, ◌++◌, ◌≡◌, ℕ, ◌^◌, ◌<◌, eqb, leb, ltb, length, get_or, take, drop}
 use Rattle.bits.specs.Refusals.{number_of}
 use Rattle.bits.specs.declared.Writing.{Writing}
 use Rattle.bits.specs.declared.Writing.TheVariants as writing
@@ -26,7 +26,6 @@ use Rattle.journal_rules.specs.declared.Reading.TheVariants as reading
 use Rattle.merge_recorder_rules.specs.Steps.{both_of, merge_need, MergeSteppedBy, MergeFlushedBy}
 use Rattle.merge_recorder_rules.specs.declared.MergeRecorder.{MergeRecorder}
 use Rattle.merge_recorder_rules.specs.declared.MergeStepped.{MergeStepped}
-use Rattle.merging_rules.specs.Turns.{fed, walk}
 use Rattle.merger_rules.specs.Merging.{is_late, is_near, held_of, push_of}
 use Rattle.merger.specs.States.{view_of, PushGave}
 use Rattle.merger.specs.declared.AfterPush.{AfterPush}
@@ -274,31 +273,9 @@ pub record Unmerged (r : MergeRecorder) (out : List ℕ) (a : MergeStepped) (out
   pub earlier : a.next.earlier ≡ r.earlier
   pub lent : out' ≡ out
 
--- the flush of the recorder of two streams: 2, where the lent memory is below what one turn may need
-abbrev pub MergeFlushRefuses : MergeRecorder → List ℕ → MergeStepped → List ℕ → Type 0
-MergeFlushRefuses r out a out' = Refuses (small_memory merge_need out ∷ []) (number_in_push a.answer) (Unmerged r out a out')
-
--- of n more dibits of a stream one comes behind its first 2^40
-abbrev pub past_end : State → ℕ → Test
-past_end state n = test 3 (ltb (2 ^ 40) (state.figures.taken + n))
-
--- the push of the next dibit of a stream, or of none: 1, 2, 3; refused, the synchroniser is as it was, and nothing is sent
-abbrev pub TurnRefuses : List ℕ → State → List Input → Type 0
-TurnRefuses out state inputs =
-    Refuses (step_tests merge_need out state inputs) (number_in_push (fed inputs state).answer) (((fed inputs state).next ≡ state) × ((fed inputs state).sent ≡ []))
-
--- A step of the recorder of two streams is turns, in each a push of the next dibit of either; `used` of them were made. It is refused where too little memory
--- is lent, and nothing is done then; and it says so where a stream came to its end: what it refuses is the pushes of that stream's dibits, and the turns go on.
-pub record MergeStepRefuses (try : Trying) (primary alternate : List Input) (r : MergeRecorder) (out : List ℕ) (a : MergeStepped) (out' : List ℕ) : Type 0 where
-  -- the number is that of these tests: 2, 3 of the primary, 3 of the alternate
-  pub exactly : number_in_push a.answer
-      ≡ first_number (small_memory merge_need out ∷ past_end (view r.first) (min a.used (length primary)) ∷ past_end (view r.second) (min a.used (length alternate)) ∷ [])
-  pub as_before : number_in_push a.answer ≡ 2 → Unmerged r out a out'
-  -- the state is that of the turns made, and in each of them either push is refused by its own tests
-  pub state : both_of a.next ≡ (walk a.used try primary alternate (both_of r)).both
-  pub pushes : (j : ℕ) → j < a.used
-      → TurnRefuses out (walk j try primary alternate (both_of r)).both.first (take 1 (drop j primary))
-      × TurnRefuses out (walk j try primary alternate (both_of r)).both.second (take 1 (drop j alternate))
+-- the recorder of two streams: 2, where the lent memory is below what one turn may need
+abbrev pub MergeStepRefuses : MergeRecorder → List ℕ → MergeStepped → List ℕ → Type 0
+MergeStepRefuses r out a out' = Refuses (small_memory merge_need out ∷ []) (number_in_push a.answer) (Unmerged r out a out')
 
 -- the merger: 7, 8, late, 9. Late is an answer and no refusal, and nothing behind it is tested
 abbrev pub late : Clock → ℕ → Test
@@ -369,8 +346,8 @@ pub record Demand1 : Type 0 where
       → SteppedBy p out out' (dibits_of bytes from) r a → StepRefuses p r (dibits_of bytes from) out a out'
   -- merge_recorder
   pub merge_step : (try : Trying) (out : List ℕ) (primary : List Input) (over : Bool) (alternate : List Input) (ended : Bool) (r : MergeRecorder) (a : MergeStepped) (out' : List ℕ)
-      → MergeSteppedBy try out out' primary over alternate ended r a → MergeStepRefuses try primary alternate r out a out'
-  pub merge_flush : (out : List ℕ) (r : MergeRecorder) (a : MergeStepped) (out' : List ℕ) → MergeFlushedBy out out' r a → MergeFlushRefuses r out a out'
+      → MergeSteppedBy try out out' primary over alternate ended r a → MergeStepRefuses r out a out'
+  pub merge_flush : (out : List ℕ) (r : MergeRecorder) (a : MergeStepped) (out' : List ℕ) → MergeFlushedBy out out' r a → MergeStepRefuses r out a out'
   -- merger
   pub merger_push : (m : Merger) (stream : ℕ) (figures : Head) (number : ℕ) (check : Bool) (r : AfterPush)
       → PushGave m (push_of stream (held_of figures number check) (view_of m)) r → MergerRefuses m stream figures.offset r

@@ -10,7 +10,7 @@
 --
 -- Two streams of the same time: the recorder of both is lent what is there of each, and goes dibit by dibit through them. What it hands out is the journal of
 -- the frames that the merger released, in their order, each with the envelope of the stream that it names; every frame of both is in the journal or in exactly
--- one count. A stream is full after 2^40 dibits: a call that meets its end says so.
+-- one count.
 --
 -- What it does not say: that a program puts these bytes into a file, which no contract can say. Before the first frame and behind the last no gap is
 -- told.
@@ -19,10 +19,10 @@
 -- a call promises, `SteppedBy`, in Steps.antt there: the calls are recorder_lines::step and recorder::step; a `History` of calls, an input cut anywhere
 -- (`Through`, `Gone`) and the frames that the synchroniser sends (`frames_for`) in Calls.antt; the theorems in Statements.antt. What they come to for each
 -- thing that recorder::step can be asked, lines of speech among them, is in crates/recorder/specs/Statements.antt; what a call refuses in `Demand1`,
--- fields `step` and `merge_step`. Of two streams: what each dibit does (`walk`, `whole`) in crates/merging_rules/specs/Turns.antt and Piles.antt, what is proved of it in
+-- field `step`. Of two streams: what each dibit does (`walk`, `whole`) in crates/merging_rules/specs/Turns.antt and Piles.antt, what is proved of it in
 -- Merged.antt; what a call promises, `MergeSteppedBy`, in crates/merge_recorder_rules/specs/Steps.antt, a history of calls in Calls.antt.
 -- Assumes nothing.
-use Rattle.merge_recorder_rules.specs.Statements.{merge_step_rules, merge_refuses, merge_records}
+use Rattle.merge_recorder_rules.specs.Statements.{merge_records}
 use Rattle.merging_rules.specs.Merged.{merged_rule}
 use Rattle.recorder_rules.specs.Statements.{MakingsSequential, step_rules, steps_make, cut_anywhere, whole_input, journal_rule}
 
@@ -39,10 +39,6 @@ pub record Recording : Type 0 where
   pub whole : whole_input
   -- of the journal of any such history: no break between its first and its last frame, no record left out or refused, and each reads back
   pub journal : journal_rule
-  -- a call of the recorder of two streams that is lent the dibits of a turn and memory enough goes on, and takes a dibit unless it is refused
-  pub merge_goes_on : merge_step_rules
-  -- it is refused by 3 exactly where the push of one of its dibits was: no dibit of a full stream is used without a word
-  pub merge_refuses_lem : merge_refuses
   -- of two streams, cut anywhere and apart from each other: what was handed out is the journal of the frames that the merger released, whatever the cuts
   pub merges : merge_records
   -- and of these frames: where each comes from, that no frame is lost that is not counted, and that the journal has no break and no refused record

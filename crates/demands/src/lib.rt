@@ -64,8 +64,6 @@ pub fn recording()
     recorder_rules::cut_anywhere();
     recorder_rules::whole_input();
     recorder_rules::journal_rule();
-    merge_recorder_rules::merge_step_rules();
-    merge_recorder_rules::merge_refuses();
     merge_recorder_rules::merge_records();
     merging_rules::merged_rule();
 }

@@ -1,3 +1,2 @@
 pub mod Hearing
 pub mod Coming
-pub mod Turning

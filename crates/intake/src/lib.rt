@@ -1,59 +1,48 @@
-// Which bytes of an input are handed on next. What a read gives is a piece, however short, and is handed on at once: its dibits are used up before the next
+// Which bytes of an open file are handed on next. What a read gives is a piece, however short, and is handed on at once: its dibits are used up before the next
 // read. A cursor goes from call to call by value; the piece lies at the front of lent memory.
 //
 // specs/Pieces.antt says what a cursor is and what a read does to it, specs/Heard.antt that the dibits handed to a recorder are those of the bytes read.
 
 #![tactic(auto)]
 
-ghost use Rattle.std.specs.Prelude.{◌≡◌, true, ◌+◌, ◌*◌, ◌-◌, ◌^◌, ◌≤◌, ◌<◌, min, length};
-ghost use Rattle.channels.specs.Moving.{size_of};
-ghost use Rattle.intake.specs.Heard.{heard_whole};
-ghost use Rattle.intake.specs.Pieces.{cursor_at, is_on, is_broken, going_after, going_beside, ended_by, SoundCursor, RefilledBy, came_as};
+ghost use Rattle.std.specs.Prelude.{◌≡◌, true, ◌+◌, ◌*◌, ◌-◌, ◌≤◌, min, length};
+ghost use Rattle.intake.specs.Pieces.{cursor_at, is_on, going_after, going_beside, SoundCursor, RefilledBy, came_as};
 
-use channels::{Desk, Intake, read_some};
-use std::io::{Read, Write};
-use std::rt::Clock;
+use channels::{Intake, read_some};
 use sync_inputs::Push;
 
-// Whether a stream goes on; has ended with its file; is full, since the synchroniser has refused a dibit; or broke off: a read or a write has failed, and
-// nothing may be written any more.
+// Whether a stream goes on, has ended, or broke off: a read or a write has failed, and nothing may be written any more.
 #[derive(Clone, Copy)]
 pub enum Going {
     On,
     Ended,
-    Full,
     Broken,
 }
 
-// The turns of a loop over one stream or two: each one takes a dibit at least, and a synchroniser takes 2^40 of them, so that no loop uses up these 2^42.
-pub const MOST_TURNS: u64 = 4398046511104;
-
-// How many bytes the piece has, how many of its dibits are used, how many bytes were read in all, and whether the stream goes on.
+// How many bytes the piece has, how many of its dibits are used, and whether the stream goes on.
 #[derive(Clone, Copy)]
 pub struct Cursor {
     pub size: usize,
     pub from: usize,
-    pub read: u64,
     pub going: Going,
 }
 
 // Gives the cursor of a piece of so many bytes, of which no dibit is used.
-fn piece_of(size: usize, read: u64, going: Going) -> Cursor
-    ensures { result ≡ cursor_at size 0 read going }
+fn piece_of(size: usize, going: Going) -> Cursor
+    ensures { result ≡ cursor_at size 0 going }
 {
     Cursor {
         size,
         from: 0,
-        read,
         going,
     }
 }
 
 // Gives the cursor of a file of which nothing is read.
 pub fn opened() -> Cursor
-    ensures { result ≡ cursor_at 0 0 0 Going.On }
+    ensures { result ≡ cursor_at 0 0 Going.On }
 {
-    piece_of(0, 0, Going::On)
+    piece_of(0, Going::On)
 }
 
 // Tells whether a stream goes on.
@@ -63,45 +52,34 @@ pub fn goes_on(going: Going) -> bool
     match going {
         Going::On => true,
         Going::Ended => false,
-        Going::Full => false,
         Going::Broken => false,
     }
 }
 
 // Tells whether a stream broke off.
-pub fn is_broken(going: Going) -> bool
-    ensures { result ≡ is_broken going }
-{
+pub fn is_broken(going: Going) -> bool {
     match going {
         Going::On => false,
         Going::Ended => false,
-        Going::Full => false,
         Going::Broken => true,
     }
 }
 
-// Gives the cursor of a piece that a read gave behind so many bytes: nothing of it is used.
-fn came(read: u64, intake: Intake) -> Cursor
-    requires { read + size_of intake < 2 ^ 64 }
-    ensures { result ≡ came_as read intake }
+// Gives the cursor of a piece that a read gave: nothing of it is used.
+fn came(intake: Intake) -> Cursor
+    ensures { result ≡ came_as intake }
 {
     match intake {
-        Intake::Bytes(n) => piece_of(n, read + n as u64, Going::On),
-        Intake::Ended => piece_of(0, read, Going::Ended),
-        Intake::Failed(_) => piece_of(0, read, Going::Broken),
+        Intake::Bytes(n) => piece_of(n, Going::On),
+        Intake::Ended => piece_of(0, Going::Ended),
+        Intake::Failed => piece_of(0, Going::Broken),
     }
 }
 
 // Reads the next piece where the stream goes on and all dibits of the last one are used; else it gives the cursor as it is.
-pub fn refilled<R: Read, W: Write, E: Write, C: Clock>(
-    c: Cursor,
-    from: &mut R,
-    buf: &mut [u8],
-    desk: &mut Desk<W, E, C>,
-) -> Cursor
+pub fn refilled(c: Cursor, fd: i32, buf: &mut [u8]) -> Cursor
     requires fact_1 { SoundCursor c buf.old }
     requires fact_2 { length buf.old ≤ 4096 }
-    requires fact_3 { c.read + 4096 < 2 ^ 64 }
     ensures refilled { RefilledBy buf.old buf.new c result }
     ensures sound { SoundCursor result buf.new }
     ensures kept { length buf.new ≡ length buf.old }
@@ -113,15 +91,11 @@ pub fn refilled<R: Read, W: Write, E: Write, C: Clock>(
     if c.from < 4 * c.size {
         return c;
     }
-    came(c.read, read_some(from, buf, desk))
+    came(read_some(fd, buf))
 }
 
 // Tells whether a stream goes on behind a step: not where what it made could not be written, nor where a push was refused, which it says by its number.
-fn goes_behind<W: Write, E: Write, C: Clock>(
-    written: bool,
-    answer: Push,
-    desk: &mut Desk<W, E, C>,
-) -> Going
+fn goes_behind(written: bool, answer: Push) -> Going
     ensures { result ≡ going_after written answer }
 {
     if !written {
@@ -130,28 +104,21 @@ fn goes_behind<W: Write, E: Write, C: Clock>(
     match answer {
         Push::Taken => Going::On,
         Push::Refused(refusal) => {
-            texts_printing::print_error(lines::refusal_line(refusal), desk);
-            Going::Full
+            texts_printing::print_error(lines::refusal_line(refusal));
+            Going::Ended
         }
     }
 }
 
 // Gives the cursor behind a step that used so many dibits, whether what it made was written, and what its last push answered.
-pub fn advanced<W: Write, E: Write, C: Clock>(
-    c: Cursor,
-    used: usize,
-    written: bool,
-    answer: Push,
-    desk: &mut Desk<W, E, C>,
-) -> Cursor
+pub fn advanced(c: Cursor, used: usize, written: bool, answer: Push) -> Cursor
     requires { c.from + used ≤ 16384 }
-    ensures { result ≡ cursor_at c.size (c.from + used) c.read (going_after written answer) }
+    ensures { result ≡ cursor_at c.size (c.from + used) (going_after written answer) }
 {
     Cursor {
         size: c.size,
         from: c.from + used,
-        read: c.read,
-        going: goes_behind(written, answer, desk),
+        going: goes_behind(written, answer),
     }
 }
 
@@ -162,54 +129,24 @@ fn least(a: usize, b: usize) -> usize
     if a < b { a } else { b }
 }
 
-// Tells whether a stream goes on behind a write: as before, but where what was made could not be written.
-pub fn goes_beside(written: bool, going: Going) -> Going
+// Tells whether a stream goes on beside another one: as before, but where what was made of both could not be written.
+fn goes_beside(written: bool, going: Going) -> Going
     ensures { result ≡ going_beside written going }
 {
     if written { going } else { Going::Broken }
 }
 
-// Tells what a step over two streams leaves of one of them: where a push was refused, one that went on is full.
-fn ended_by(answer: Push, going: Going) -> Going
-    ensures { result ≡ ended_by answer going }
-{
-    if let Push::Taken = answer {
-        return going;
-    }
-    if goes_on(going) { Going::Full } else { going }
-}
-
-// Gives the cursor of one of two streams behind a step over both that used so many dibits of each, as far as it had them, whether what was made was written,
-// and what the step answered.
-pub fn beside(c: Cursor, used: usize, written: bool, answer: Push) -> Cursor
+// Gives the cursor of one of two streams behind a step over both that used so many dibits of each, as far as it had them, and whether what was made was written.
+pub fn beside(c: Cursor, used: usize, written: bool) -> Cursor
     requires fact_1 { c.from ≤ 4 * c.size }
     requires fact_2 { c.size ≤ 4096 }
-    ensures { result ≡ cursor_at c.size (c.from + min used (4 * c.size - c.from)) c.read (going_beside written (ended_by answer c.going)) }
+    ensures { result ≡ cursor_at c.size (c.from + min used (4 * c.size - c.from)) (going_beside written c.going) }
 {
     let left = 4 * c.size - c.from;
     let going = c.going;
     Cursor {
         size: c.size,
         from: c.from + least(used, left),
-        read: c.read,
-        going: goes_beside(written, ended_by(answer, going)),
-    }
-}
-
-// Gives the cursor of a stream behind a write: it goes on as before, but where what was made could not be written.
-pub fn behind_write(c: Cursor, written: bool) -> Cursor
-    ensures { result ≡ cursor_at c.size c.from c.read (going_beside written c.going) }
-{
-    let going = c.going;
-    Cursor {
-        size: c.size,
-        from: c.from,
-        read: c.read,
         going: goes_beside(written, going),
     }
 }
-
-// Of an input whose file has ended: what was handed out is what is made of exactly the frames of its dibits.
-pub fn heard_whole()
-    ensures { heard_whole }
-{}

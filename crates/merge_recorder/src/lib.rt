@@ -78,8 +78,7 @@ fn whole_bytes(from: usize, size: usize) -> usize
 }
 
 // Takes packed dibits of the primary from dibit `from` on and of the alternate from dibit `start` on, turn by turn, and lays the records of the frames that are
-// handed on at the front of the lent memory. `over` and `ended` say of each stream that nothing comes after its bytes. A stream that is full, after 2^40 dibits,
-// has ended: its further dibits are used and not taken, and the answer says 3.
+// handed on at the front of the lent memory. `over` and `ended` say of each stream that nothing comes after its bytes.
 pub fn step(
     r: MergeRecorder,
     table: &[u8],
@@ -130,5 +129,5 @@ pub fn flush(r: MergeRecorder, out: &mut [u8]) -> MergeStepped
     let laid = moved.laid;
     let first = r.first;
     let second = r.second;
-    stepped(0, Push::Taken, laid, first, second, work)
+    stepped(0, laid, first, second, work)
 }

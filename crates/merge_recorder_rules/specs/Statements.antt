@@ -1,4 +1,4 @@
--- What holds of a step over two streams, and of any history of steps.
+-- What holds of any history of steps over two streams.
 -- Assumes nothing.
 use Rattle.std.specs.Prelude.{◌≡◌, List, [], ◌++◌, ℕ, ◌≤◌, length, take}
 use Rattle.journal_rules.specs.declared.Earlier.TheVariants.{Nothing}
@@ -8,22 +8,8 @@ use Rattle.recorder_rules.specs.Makings.{Trying}
 use Rattle.sync_rules.specs.State.{Input}
 use Rattle.merge_recorder_rules.specs.declared.MergeRecorder.{MergeRecorder}
 use Rattle.merge_recorder_rules.specs.declared.MergeStepped.{MergeStepped}
-use Rattle.merge_recorder_rules.specs.Steps.{both_of, merge_need, ValidMerge, MergeStepRule, SaysEnd, MergeFlushedBy}
-use Rattle.merge_recorder_rules.specs.Calls.{dibits_in, MergeCalled, MergeMeets, MergeHistory, merge_state, merge_handed, MergeThrough, merge_rest}
-
--- ---- a step
-
--- A step goes on, and takes a dibit, unless it is refused.
-abbrev pub merge_step_rules : Type 0
-merge_step_rules = (try : Trying) (r : MergeRecorder) → ValidMerge r → (c : MergeCalled) → MergeMeets try r c
-    → MergeStepRule c.out (dibits_in c.primary) c.primary.over (dibits_in c.alternate) c.alternate.over r c.answer
-
--- A step is refused by 3 exactly where the push of one of its dibits was: no dibit of a full stream is used without a word.
-abbrev pub merge_refuses : Type 0
-merge_refuses = (try : Trying) (r : MergeRecorder) → ValidMerge r → (c : MergeCalled) → MergeMeets try r c
-    → SaysEnd try (dibits_in c.primary) (dibits_in c.alternate) r c.answer
-
--- ---- histories
+use Rattle.merge_recorder_rules.specs.Steps.{both_of, merge_need, MergeFlushedBy}
+use Rattle.merge_recorder_rules.specs.Calls.{MergeCalled, MergeHistory, merge_state, merge_handed, MergeThrough, merge_rest}
 
 pub record MergeFresh (r : MergeRecorder) : Type 0 where
   pub nothing : both_of r ≡ begun

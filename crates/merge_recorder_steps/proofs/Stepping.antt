@@ -35,14 +35,13 @@ use Rattle.recorder_rules.specs.Steps.{dibits_of, laid_none}
 use Rattle.recorder_rules.specs.declared.Laid.{Laid}
 use Rattle.recorder_rules.proofs.Feeding.{packed_dibits}
 use Rattle.recorder_rules.proofs.Rising.{Dibits}
+use Rattle.sync.specs.declared.Synchroniser.{Synchroniser}
 use Rattle.sync_call_rules.specs.Calls.{Got, shown_as}
+use Rattle.sync_inputs.specs.declared.Push.TheVariants.{Taken}
 use Rattle.sync_inputs.proofs.Inputs.{length_packed}
 use Rattle.sync_numbers.specs.View.{view_of}
 use Rattle.sync_numbers.specs.declared.numbers.Numbers.{Numbers}
 use Rattle.sync_rules.specs.State.{State, Input}
-use Rattle.merge_recorder_steps.specs.Ahead.{AheadOf, answer_at}
-use Rattle.merge_recorder_steps.specs.declared.Ahead.{Ahead}
-use Rattle.merge_recorder_steps.proofs.Answering.{answer_met}
 
 -- ---- how many turns there are
 
@@ -64,7 +63,7 @@ least_available true false m a b = refl
 least_available false true m a b = refl
 least_available false false m a b = omega arith
 
-all_there : (primary alternate : List ℕ) (from start p q all : ℕ) (over ended : Bool) → p ≡ min most_turns (4 * length primary - from) → q ≡ min most_turns (4 * length alternate - start) → all ≡ available_of over ended p q
+pub all_there : (primary alternate : List ℕ) (from start p q all : ℕ) (over ended : Bool) → p ≡ min most_turns (4 * length primary - from) → q ≡ min most_turns (4 * length alternate - start) → all ≡ available_of over ended p q
     → all ≡ min most_turns (available_of over ended (length (dibits_of primary from)) (length (dibits_of alternate start)))
 all_there primary alternate from start p q all over ended e f g =
     g ∙ ap₂ (λ (x y : ℕ). available_of over ended x y) (e ∙ ap (min most_turns) (sym (length_packed primary from))) (f ∙ ap (min most_turns) (sym (length_packed alternate start)))
@@ -80,7 +79,7 @@ both_there true false a b i n h k = k
 both_there false true a b i n h k = h
 both_there false false a b i n h k = omega arith
 
-within_all : (over ended : Bool) (m m' : State) (p q i n : ℕ) → Stretch m m' (p - i) (q - i) n → i < available_of over ended p q → i + n ≤ available_of over ended p q
+pub within_all : (over ended : Bool) (m m' : State) (p q i n : ℕ) → Stretch m m' (p - i) (q - i) n → i < available_of over ended p q → i + n ≤ available_of over ended p q
 within_all over ended m m' p q i n s h =
     ⊎_elim (λ e. omega (arith, e)) (λ c. both_there over ended p q i n (fits p s.some c.2) (fits q s.some c.3)) s.calm
   where
@@ -88,7 +87,7 @@ within_all over ended m m' p q i n s h =
     fits a h k = omega arith
 
 -- what is fed at once, of the dibits that there are
-stretched : (primary alternate : List ℕ) (from start : ℕ) (m m' : State) (i p q n : ℕ) → p ≡ min most_turns (4 * length primary - from) → q ≡ min most_turns (4 * length alternate - start)
+pub stretched : (primary alternate : List ℕ) (from start : ℕ) (m m' : State) (i p q n : ℕ) → p ≡ min most_turns (4 * length primary - from) → q ≡ min most_turns (4 * length alternate - start)
     → Stretch m m' (p - i) (q - i) n → Stretch m m' (length (dibits_of primary from) - i) (length (dibits_of alternate start) - i) n
 stretched primary alternate from start m m' i p q n e f s =
     record {
@@ -99,28 +98,8 @@ stretched primary alternate from start m m' i p q n e f s =
     more : (l z : ℕ) → z ≡ min most_turns l → n ≤ z - i → n ≤ l - i
     more l z h k = omega arith
 
-stretch_as : (m m' : State) (p q i n a b : ℕ) → a ≡ p - i → b ≡ q - i → n ≡ stretch_of m m' a b → Stretch m m' (p - i) (q - i) n
+pub stretch_as : (m m' : State) (p q i n a b : ℕ) → a ≡ p - i → b ≡ q - i → n ≡ stretch_of m m' a b → Stretch m m' (p - i) (q - i) n
 stretch_as m m' p q i n a b e f g = subst (λ (z : ℕ). Stretch m m' (p - i) z n) f (subst (λ (z : ℕ). Stretch m m' z b n) e (subst (λ (z : ℕ). Stretch m m' a b z) (sym g) (stretch_rule_lem m m' a b)))
-
--- ---- the turns ahead of a step
-
-module _ (r : MergeRecorder) (primary alternate : List ℕ) (h : Ahead) (A : AheadOf r primary alternate h) where
-  abbrev these : List Input
-  these = dibits_of primary h.from
-
-  abbrev those : List Input
-  those = dibits_of alternate h.start
-
-  pub all_ahead : h.all ≡ min most_turns (available_of h.over h.ended (length these) (length those))
-  all_ahead = all_there primary alternate h.from h.start h.has h.holds h.all h.over h.ended A.has A.holds A.all
-
-  module _ (m m' : State) (i n a b : ℕ) (e : a ≡ h.has - i) (f : b ≡ h.holds - i) (g : n ≡ stretch_of m m' a b) where
-    pub within_ahead : i < h.all → i + n ≤ h.all
-    within_ahead k =
-        omega (arith, A.all, within_all h.over h.ended m m' h.has h.holds i n (stretch_as m m' h.has h.holds i n a b e f g) (omega (arith, A.all, k)))
-
-    pub stretch_ahead : Stretch m m' (length these - i) (length those - i) n
-    stretch_ahead = stretched primary alternate h.from h.start m m' i h.has h.holds n A.has A.holds (stretch_as m m' h.has h.holds i n a b e f g)
 
 -- ---- what is made of what the streams brought
 
@@ -212,17 +191,17 @@ module _ (try : Trying) (xs ys : List Input) (d : Dibits xs) (e : Dibits ys) (b�
         round w out lay (calm_moved try (take n (drop i xs)) (take n (drop i ys)) _ _ bits' reliabilities' one others' their' two a b T U w out lay z) S.paired.work (omega (arith, z.0, z.1)) z.2 S.fits
 
 -- ---- the answer
-pub stepped_by : (try : Trying) (primary alternate : List ℕ) (r : MergeRecorder) (h : Ahead) → AheadOf r primary alternate h → (out left : List ℕ) → merge_need ≤ length out → (i : ℕ) (bits reliabilities : List ℕ) (k : Numbers) (others their : List ℕ) (l : Numbers) (w : Work) (lay₀ lay : Laid) → lay₀ ≡ laid_none r.earlier
-    → Stood try (dibits_of primary h.from) (dibits_of alternate h.start) (packed_dibits primary h.from) (packed_dibits alternate h.start) (both_of r) out lay₀ i bits reliabilities k others their l w left lay
-    → i ≤ h.all → (h.all ≤ i) ⊎ (length out < lay.size + merge_need)
-    → (s : MergeStepped)
-    → s ≡ record { used = i; size = lay.size; answer = answer_at h i; next = record { first = record { bits = bits; reliabilities = reliabilities; numbers = k }; second = record { bits = others; reliabilities = their; numbers = l }; work = w; earlier = lay.earlier } }
-    → MergeSteppedBy try out left (dibits_of primary h.from) h.over (dibits_of alternate h.start) h.ended r s × Paired s.next.first.bits s.next.first.reliabilities s.next.first.numbers s.next.second.bits s.next.second.reliabilities s.next.second.numbers s.next.work
-stepped_by try primary alternate r h A out left large i bits reliabilities k others their l w lay₀ lay e₀ S₀ few stops s es =
-    subst (λ (z : MergeStepped). MergeSteppedBy try out left xs h.over ys h.ended r z × Paired z.next.first.bits z.next.first.reliabilities z.next.first.numbers z.next.second.bits z.next.second.reliabilities z.next.second.numbers z.next.work)
-    (sym es) (
+pub stepped_by : (try : Trying) (primary alternate : List ℕ) (from start : ℕ) (over ended : Bool) (r : MergeRecorder) (out left : List ℕ) → merge_need ≤ length out → (i all : ℕ) (bits reliabilities : List ℕ) (k : Numbers) (others their : List ℕ) (l : Numbers) (w : Work) (lay₀ lay : Laid) → lay₀ ≡ laid_none r.earlier
+    → Stood try (dibits_of primary from) (dibits_of alternate start) (packed_dibits primary from) (packed_dibits alternate start) (both_of r) out lay₀ i bits reliabilities k others their l w left lay
+    → all ≡ min most_turns (available_of over ended (length (dibits_of primary from)) (length (dibits_of alternate start))) → i ≤ all → (all ≤ i) ⊎ (length out < lay.size + merge_need)
+    → (x y : Synchroniser) → x ≡ record { bits = bits; reliabilities = reliabilities; numbers = k } → y ≡ record { bits = others; reliabilities = their; numbers = l }
+    → (s : MergeStepped) → s ≡ record { used = i; size = lay.size; answer = Taken; next = record { first = x; second = y; work = w; earlier = lay.earlier } }
+    → MergeSteppedBy try out left (dibits_of primary from) over (dibits_of alternate start) ended r s × Paired s.next.first.bits s.next.first.reliabilities s.next.first.numbers s.next.second.bits s.next.second.reliabilities s.next.second.numbers s.next.work
+stepped_by try primary alternate from start over ended r out left large i all bits reliabilities k others their l w lay₀ lay e₀ S₀ there few stops x y ex ey s es =
+    subst (λ (z : MergeStepped). MergeSteppedBy try out left xs over ys ended r z × Paired z.next.first.bits z.next.first.reliabilities z.next.first.numbers z.next.second.bits z.next.second.reliabilities z.next.second.numbers z.next.work)
+    (sym (es ∙ ap₂ (λ (g h : Synchroniser). record { used = i; size = lay.size; answer = Taken; next = record { first = g; second = h; work = w; earlier = lay.earlier } }) ex ey)) (
       record {
-        answer = answer_met r primary alternate h A i (omega (arith, few, there)) ∙ sym (cond_ge (length out) merge_need _ _ large);
+        answer = sym (cond_ge (length out) merge_need _ _ large);
         few = omega (arith, few, there);
         before = S.before;
         stops = ⊎_elim (λ h. inl (omega (arith, h, few, there))) (λ h. inr h) stops;
@@ -236,13 +215,10 @@ stepped_by try primary alternate r h A out left large i bits reliabilities k oth
     )
   where
     xs : List Input
-    xs = dibits_of primary h.from
+    xs = dibits_of primary from
 
     ys : List Input
-    ys = dibits_of alternate h.start
+    ys = dibits_of alternate start
 
-    there : h.all ≡ min most_turns (available_of h.over h.ended (length xs) (length ys))
-    there = all_ahead r primary alternate h A
-
-    S : Stood try xs ys (packed_dibits primary h.from) (packed_dibits alternate h.start) (both_of r) out (laid_none r.earlier) i bits reliabilities k others their l w left lay
-    S = subst (λ (z : Laid). Stood try xs ys (packed_dibits primary h.from) (packed_dibits alternate h.start) (both_of r) out z i bits reliabilities k others their l w left lay) e₀ S₀
+    S : Stood try xs ys (packed_dibits primary from) (packed_dibits alternate start) (both_of r) out (laid_none r.earlier) i bits reliabilities k others their l w left lay
+    S = subst (λ (z : Laid). Stood try xs ys (packed_dibits primary from) (packed_dibits alternate start) (both_of r) out z i bits reliabilities k others their l w left lay) e₀ S₀

@@ -4,12 +4,12 @@ use mathlib.Core.Path.{◌≡◌, refl, sym, ap, ◌∙◌, subst}
 use mathlib.Core.Logic.{⊎_elim}
 use mathlib.Core.Bool.{Bool, true, false, cond}
 use mathlib.Core.List.{List, [], ◌∷◌}
-use Prim.Native.Nat.{ℕ, zero, suc, ◌+◌, ◌≤◌, ◌<◌}
+use Prim.Native.Nat.{ℕ, zero, suc, ◌≤◌, ◌<◌}
 use native.Mathlib.Omega.{arith}
 use borrow.Author.Tests.{ltb-true, ltb-false, leb-true, le-ltb}
 use lib.Dec.{leb, ltb}
 use lib.ListN.{length, get_or, take, drop}
-use lib.Seq.{drop-cons, length-take-le}
+use lib.Seq.{drop-cons}
 use Rattle.bits.proofs.Conds.{cond_ge}
 use Rattle.bits.specs.declared.Refusal.{Refusal}
 use Rattle.bits.specs.declared.Refusal.TheVariants.{Dibit, FrameRoom, StreamEnd}
@@ -23,7 +23,6 @@ use Rattle.sync_inputs.specs.declared.Push.TheVariants.{Taken, Refused}
 use Rattle.sync_rules.specs.Pushes.{run}
 use Rattle.sync_rules.specs.Sizes.{room_size, most_dibits}
 use Rattle.sync_rules.specs.State.{State, Input, hard}
-use Rattle.sync_rules.proofs.Reaching.{run_taken}
 use Rattle.sync_steps.specs.Feeds.{FedOut}
 use Rattle.recorder_rules.specs.Makings.{Making, Sequential}
 use Rattle.recorder_rules.specs.Steps.{dibits_of, room_for, feed_of, got_by, step_rules}
@@ -101,11 +100,6 @@ module _ (p : Making) (size : ℕ) (large : p.need ≤ size) (xs : List Input) (
       let q = (rule.stop.1 x (drop (suc o.used) xs) z (drop-cons xs o.used (hard 0) l)).0 in
       only_end x o.next f (dibit_at xs o.used d l) (ap (λ (k : ℕ). answer_to k x o.next) (sym (cond_ge size p.need 0 room_size large)) ∙ sym q ∙ e)
 
-feed_takes : (p : Making) (size : ℕ) (xs : List Input) (r : Recorder) → (feed_of p size xs r).next.figures.taken ≡ (view r.sync).figures.taken + (feed_of p size xs r).used
-feed_takes p size xs r =
-    let rule = feed_rules_lem (room_for p.need size) xs (view r.sync) in
-    ap (λ (m : State). m.figures.taken) rule.next ∙ run_taken (take (feed_of p size xs r).used xs) (view r.sync) ∙ ap (λ (k : ℕ). (view r.sync).figures.taken + k) (length-take-le (feed_of p size xs r).used xs rule.few)
-
 pub step_rules_lem : step_rules
 step_rules_lem p q r bytes from out left a s =
     let xs = dibits_of bytes from in
@@ -113,7 +107,6 @@ step_rules_lem p q r bytes from out left a s =
     record {
       few = omega (arith, s.used, (feed_rules_lem (room_for p.need (length out)) xs (view r.sync)).few);
       fits = omega (arith, s.size, made_fits p q (length out) xs r);
-      takes = ap (λ (m : State). m.figures.taken) s.next ∙ feed_takes p (length out) xs r ∙ ap (λ (k : ℕ). (view r.sync).figures.taken + k) (sym s.used);
       goes_on = λ h l e. some_used p (length out) h xs d r l (sym s.answer ∙ e) a.used (sym s.used);
       refused = λ h f e. let w = refused_end p (length out) h xs d r f (sym s.answer ∙ e) in (w.0, subst (λ (m : State). most_dibits ≤ m.figures.taken) (sym s.next) w.1);
     }

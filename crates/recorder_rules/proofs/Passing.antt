@@ -1,10 +1,10 @@
 -- Steps one behind the other through an input, and through one input behind another: what a program's loops add to.
 -- Assumes nothing.
-use mathlib.Core.Path.{◌≡◌, refl, sym, ap, ap₂, ◌∙◌, subst}
+use mathlib.Core.Path.{◌≡◌, refl, sym, ap, ◌∙◌, subst}
 use mathlib.Core.List.{List, [], ◌∷◌, ◌++◌, append_assoc, append-nil}
 use Prim.Native.Nat.{ℕ, zero, suc, ◌+◌, ◌≤◌}
 use native.Mathlib.Omega.{arith}
-use lib.ListN.{length, take, drop, length-append}
+use lib.ListN.{length, drop, length-append}
 use lib.Seq.{drop-drop, drop-append-le}
 use Rattle.sync.specs.View.{view}
 use Rattle.sync_inputs.specs.Inputs.{hardly, unpacked}
@@ -13,7 +13,7 @@ use Rattle.sync_rules.specs.State.{Input}
 use Rattle.journal_rules.specs.declared.Earlier.TheVariants.{Nothing}
 use Rattle.recorder_rules.specs.Makings.{Making, accepted_in}
 use Rattle.recorder_rules.specs.Steps.{dibits_of, SteppedBy}
-use Rattle.recorder_rules.specs.Calls.{Called, lent_to, Meets, History, state_of, pushed_by, handed_out, accepted_by, frames_for, Through, rest_of, Made, Gone}
+use Rattle.recorder_rules.specs.Calls.{Called, lent_to, Meets, History, state_of, pushed_by, accepted_by, frames_for, Through, rest_of, Made, Gone}
 use Rattle.recorder_rules.specs.Statements.{whole_input}
 use Rattle.recorder_rules.specs.declared.Recorder.{Recorder}
 use Rattle.recorder_rules.specs.declared.Stepped.{Stepped}
@@ -46,14 +46,9 @@ unfolding accepted_by
 counts_append [] bs = omega arith
 counts_append (c ∷ cs) bs = omega (arith, counts_append cs bs)
 
-handed_append : (cs bs : List Called) → handed_out (cs ++ bs) ≡ handed_out cs ++ handed_out bs
-unfolding handed_out
-handed_append [] bs = refl
-handed_append (c ∷ cs) bs = ap (λ (l : List ℕ). take c.answer.size c.left ++ l) (handed_append cs bs) ∙ sym (append_assoc (take c.answer.size c.left) (handed_out cs) (handed_out bs))
-
 -- steps through an input, and further steps through its rest
-gone_on : (p : Making) (r s t : Recorder) (ds es rest : List Input) (a b : ℕ) (o u : List ℕ) → Gone p r ds s es a o → Gone p s es t rest b u → Gone p r ds t rest (a + b) (o ++ u)
-gone_on p r s t ds es rest a b o u g h =
+gone_on : (p : Making) (r s t : Recorder) (ds es rest : List Input) (a b : ℕ) → Gone p r ds s es a → Gone p s es t rest b → Gone p r ds t rest (a + b)
+gone_on p r s t ds es rest a b g h =
     record {
       steps = g.steps ++ h.steps;
       history = history_append p g.steps h.steps r g.history (subst (λ (z : Recorder). History p z h.steps) (sym g.there) h.history);
@@ -61,7 +56,6 @@ gone_on p r s t ds es rest a b o u g h =
       there = state_append g.steps h.steps r ∙ ap (λ (z : Recorder). state_of z h.steps) g.there ∙ h.there;
       left = rest_append ds g.steps h.steps ∙ ap (λ (l : List Input). rest_of l h.steps) g.left ∙ h.left;
       counts = omega (arith, counts_append g.steps h.steps, g.counts, h.counts);
-      hands = handed_append g.steps h.steps ∙ ap₂ (λ (x y : List ℕ). x ++ y) g.hands h.hands;
     }
 
 -- ---- an input with more behind it
@@ -86,8 +80,8 @@ rest_wide p [] r ds es h w = refl
 rest_wide p (c ∷ cs) r ds es h w =
     ap (λ (l : List Input). rest_of l cs) (drop_wide p r ds es c cs h.0 w) ∙ rest_wide p cs c.answer.next (drop c.answer.used ds) es h.1 w.1
 
-pub gone_wide : (p : Making) (r s : Recorder) (ds rest es : List Input) (a : ℕ) (o : List ℕ) → Gone p r ds s rest a o → Gone p r (ds ++ es) s (rest ++ es) a o
-gone_wide p r s ds rest es a o g =
+pub gone_wide : (p : Making) (r s : Recorder) (ds rest es : List Input) (a : ℕ) → Gone p r ds s rest a → Gone p r (ds ++ es) s (rest ++ es) a
+gone_wide p r s ds rest es a g =
     record {
       steps = g.steps;
       history = g.history;
@@ -95,7 +89,6 @@ gone_wide p r s ds rest es a o g =
       there = g.there;
       left = rest_wide p g.steps r ds es g.history g.through ∙ ap (λ (l : List Input). l ++ es) g.left;
       counts = g.counts;
-      hands = g.hands;
     }
 
 -- ---- dibits of packed bytes
@@ -109,9 +102,9 @@ pub dibits_on : (bytes : List ℕ) (from k : ℕ) → drop k (dibits_of bytes fr
 dibits_on bytes from k = drop_hardly k (drop from (unpacked bytes)) ∙ ap hardly (drop-drop k from (unpacked bytes))
 
 -- one step
-gone_one : (p : Making) (r s : Recorder) (bytes : List ℕ) (from used accepted : ℕ) (o : List ℕ) → Made p r bytes from used accepted o s → Gone p r (dibits_of bytes from) s (dibits_of bytes (from + used)) accepted o
-unfolding History Through state_of rest_of accepted_by handed_out
-gone_one p r s bytes from used accepted o m =
+gone_one : (p : Making) (r s : Recorder) (bytes : List ℕ) (from used accepted : ℕ) → Made p r bytes from used accepted s → Gone p r (dibits_of bytes from) s (dibits_of bytes (from + used)) accepted
+unfolding History Through state_of rest_of accepted_by
+gone_one p r s bytes from used accepted m =
     record {
       steps = m.call ∷ [];
       history = (m.meets, refl);
@@ -119,36 +112,35 @@ gone_one p r s bytes from used accepted o m =
       there = m.next;
       left = ap (λ (k : ℕ). drop k (dibits_of bytes from)) m.takes ∙ dibits_on bytes from used;
       counts = omega (arith, m.counts);
-      hands = append-nil (take m.call.answer.size m.call.left) ∙ m.hands;
     }
 
 -- ---- what a loop starts with, and what a turn adds
 
-pub gone_none : (p : Making) (r : Recorder) (ds : List Input) → Gone p r ds r ds 0 []
-unfolding History Through state_of rest_of accepted_by handed_out
-gone_none p r ds = record { steps = []; history = refl; through = refl; there = refl; left = refl; counts = refl; hands = refl }
+pub gone_none : (p : Making) (r : Recorder) (ds : List Input) → Gone p r ds r ds 0
+unfolding History Through state_of rest_of accepted_by
+gone_none p r ds = record { steps = []; history = refl; through = refl; there = refl; left = refl; counts = refl }
 
 -- what a step promises, as a step made
-pub made_by : (p : Making) (r : Recorder) (bytes : List ℕ) (from : ℕ) (out left : List ℕ) (a : Stepped) → SteppedBy p out left (dibits_of bytes from) r a → Made p r bytes from a.used a.accepted (take a.size left) a.next
-made_by p r bytes from out left a s = record { call = record { bytes = bytes; from = from; out = out; left = left; answer = a }; lent = refl; takes = refl; counts = refl; hands = refl; next = refl; meets = s }
+pub made_by : (p : Making) (r : Recorder) (bytes : List ℕ) (from : ℕ) (out left : List ℕ) (a : Stepped) → SteppedBy p out left (dibits_of bytes from) r a → Made p r bytes from a.used a.accepted a.next
+made_by p r bytes from out left a s = record { call = record { bytes = bytes; from = from; out = out; left = left; answer = a }; lent = refl; takes = refl; counts = refl; next = refl; meets = s }
 
 -- a step more
-pub gone_more : (p : Making) (r s t : Recorder) (ds : List Input) (bytes : List ℕ) (from used a b : ℕ) (o u : List ℕ) → Gone p r ds s (dibits_of bytes from) a o → Made p s bytes from used b u t
-    → Gone p r ds t (dibits_of bytes (from + used)) (a + b) (o ++ u)
-gone_more p r s t ds bytes from used a b o u g m = gone_on p r s t ds (dibits_of bytes from) (dibits_of bytes (from + used)) a b o u g (gone_one p s t bytes from used b u m)
+pub gone_more : (p : Making) (r s t : Recorder) (ds : List Input) (bytes : List ℕ) (from used a b : ℕ) → Gone p r ds s (dibits_of bytes from) a → Made p s bytes from used b t
+    → Gone p r ds t (dibits_of bytes (from + used)) (a + b)
+gone_more p r s t ds bytes from used a b g m = gone_on p r s t ds (dibits_of bytes from) (dibits_of bytes (from + used)) a b g (gone_one p s t bytes from used b m)
 
 -- a piece of the input more
-pub gone_append : (p : Making) (r s t : Recorder) (ds es rest : List Input) (a b : ℕ) (o u : List ℕ) → Gone p r ds s [] a o → Gone p s es t rest b u → Gone p r (ds ++ es) t rest (a + b) (o ++ u)
-gone_append p r s t ds es rest a b o u g h = gone_on p r s t (ds ++ es) es rest a b o u (gone_wide p r s ds [] es a o g) h
+pub gone_append : (p : Making) (r s t : Recorder) (ds es rest : List Input) (a b : ℕ) → Gone p r ds s [] a → Gone p s es t rest b → Gone p r (ds ++ es) t rest (a + b)
+gone_append p r s t ds es rest a b g h = gone_on p r s t (ds ++ es) es rest a b (gone_wide p r s ds [] es a g) h
 
 -- ---- the whole input
 
 pub whole_input_lem : whole_input
-whole_input_lem p q r s f ds accepted o g =
+whole_input_lem p q r s f ds accepted g =
     let cs = g.steps in
     let all : pushed_by cs ≡ ds = sym (append-nil (pushed_by cs)) ∙ ap (λ (l : List Input). pushed_by cs ++ l) (sym g.left) ∙ cut_anywhere_lem p r cs g.history ds g.through in
     let made = steps_make_lem p q r f cs g.history in (
-      sym g.hands ∙ made.bytes ∙ ap (λ (xs : List Input). p.bytes Nothing (frames_for xs)) all,
+      made.bytes ∙ ap (λ (xs : List Input). p.bytes Nothing (frames_for xs)) all,
       sym g.counts ∙ made.accepted ∙ ap (λ (xs : List Input). accepted_in p.accepts (frames_for xs)) all,
       ap (λ (z : Recorder). view z.sync) (sym g.there) ∙ made.next ∙ ap state_after all,
     )

@@ -68,22 +68,20 @@ rest_of ds (c ∷ cs) = rest_of (drop c.answer.used ds) cs
 
 -- ---- for programs: what their loops promise
 
--- a step was made on r with these bytes from that dibit on: it used n dibits, accepted so many frames, handed out these bytes, and handed back s
-pub record Made (p : Making) (r : Recorder) (bytes : List ℕ) (from used accepted : ℕ) (handed : List ℕ) (s : Recorder) : Type 0 where
+-- a step was made on r with these bytes from that dibit on: it used n dibits, and accepted so many frames, and handed back s
+pub record Made (p : Making) (r : Recorder) (bytes : List ℕ) (from used accepted : ℕ) (s : Recorder) : Type 0 where
   pub call : Called
   pub lent : lent_to call ≡ dibits_of bytes from
   pub takes : call.answer.used ≡ used
   pub counts : call.answer.accepted ≡ accepted
-  pub hands : take call.answer.size call.left ≡ handed
   pub next : call.answer.next ≡ s
   pub meets : Meets p r call
 
--- steps were made that lead from r to s, go through the dibits ds up to the rest, accepted so many frames and handed out these bytes
-pub record Gone (p : Making) (r : Recorder) (ds : List Input) (s : Recorder) (rest : List Input) (accepted : ℕ) (handed : List ℕ) : Type 0 where
+-- steps were made that lead from r to s, go through the dibits ds up to the rest, and accepted so many frames
+pub record Gone (p : Making) (r : Recorder) (ds : List Input) (s : Recorder) (rest : List Input) (accepted : ℕ) : Type 0 where
   pub steps : List Called
   pub history : History p r steps
   pub through : Through ds steps
   pub there : state_of r steps ≡ s
   pub left : rest_of ds steps ≡ rest
   pub counts : accepted_by steps ≡ accepted
-  pub hands : handed_out steps ≡ handed

@@ -48,8 +48,8 @@ cut_anywhere = (p : Making) (r : Recorder) (cs : List Called) → History p r cs
 
 -- of an input through which the steps went without a rest: the bytes do not depend on the cuts
 abbrev pub whole_input : Type 0
-whole_input = (p : Making) → Sequential p → (r s : Recorder) → Fresh r → (ds : List Input) (accepted : ℕ) (handed : List ℕ) → Gone p r ds s [] accepted handed
-    → (handed ≡ p.bytes Nothing (frames_for ds)) × (accepted ≡ accepted_in p.accepts (frames_for ds)) × (view s.sync ≡ state_after ds)
+whole_input = (p : Making) → Sequential p → (r s : Recorder) → Fresh r → (ds : List Input) (accepted : ℕ) (g : Gone p r ds s [] accepted)
+    → (handed_out g.steps ≡ p.bytes Nothing (frames_for ds)) × (accepted ≡ accepted_in p.accepts (frames_for ds)) × (view s.sync ≡ state_after ds)
 
 -- ---- the journal
 

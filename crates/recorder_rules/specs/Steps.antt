@@ -88,15 +88,13 @@ pub record Fitting (need : ℕ) (heads : List Head) (count room out : ℕ) : Typ
 
 -- ---- what a caller may count on
 
-pub record StepRule (p : Making) (out : List ℕ) (xs : List Input) (r : Recorder) (a : Stepped) : Type 0 where
+pub record StepRule (p : Making) (out : List ℕ) (xs : List Input) (a : Stepped) : Type 0 where
   pub few : a.used ≤ length xs
   pub fits : a.size ≤ length out
-  -- each dibit that it used was taken
-  pub takes : (view a.next.sync).figures.taken ≡ (view r.sync).figures.taken + a.used
   -- with memory enough, a step that is lent a dibit uses one, unless 2^40 dibits were taken before: that is the only refusal
   pub goes_on : p.need ≤ length out → 0 < length xs → a.answer ≡ Taken → 0 < a.used
   pub refused : p.need ≤ length out → (x : Refusal) → a.answer ≡ Refused x → (x ≡ StreamEnd) × (most_dibits ≤ (view a.next.sync).figures.taken)
 
 abbrev pub step_rules : Type 0
 step_rules = (p : Making) → Sequential p → (r : Recorder) (bytes : List ℕ) (from : ℕ) (out left : List ℕ) (a : Stepped)
-    → SteppedBy p out left (dibits_of bytes from) r a → StepRule p out (dibits_of bytes from) r a
+    → SteppedBy p out left (dibits_of bytes from) r a → StepRule p out (dibits_of bytes from) a

@@ -1,17 +1,15 @@
 -- What is promised of a whole input.
 -- Assumes nothing.
 use Rattle.std.specs.Prelude.{List, ℕ}
-use Rattle.intake.specs.Heard.{Ran}
-use Rattle.recorder_lines.specs.Wants.{making_of, last_text}
-use Rattle.lines_laying.specs.declared.Wanted.{Wanted}
-use Rattle.sync.specs.View.{view}
+use Rattle.intake.specs.Heard.{Heard}
+use Rattle.recorder_rules.specs.Makings.{Making}
+use Rattle.recorder_rules.specs.Steps.{ValidRecorder}
+use Rattle.sync_rules.specs.State.{Input}
 use Rattle.task_lines.specs.declared.Run.{Run}
 
--- the lines of the frames, and these last ones behind them
-pub record Lines (w : Wanted) (last : List ℕ) (r : Run) : Type 0 where
+-- the recorder has taken the dibits of the bytes read, but for a rest where a push was refused or a write failed
+pub record HeardAll (p : Making) (r : Run) : Type 0 where
+  pub valid : ValidRecorder r.recorder
+  pub rest : List Input
   pub accepted : ℕ
-  pub ran : Ran (making_of w) r.recorder r.going r.read accepted last r.sent
-
--- the lines of the frames, and the last line
-abbrev pub Listed : Wanted → Run → Type 0
-Listed w r = Lines w (last_text w (view r.recorder.sync)) r
+  pub heard : Heard p r.recorder rest accepted

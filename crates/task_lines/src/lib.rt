@@ -3,37 +3,34 @@
 
 #![tactic(auto)]
 
-ghost use Rattle.std.specs.Prelude.{[], ◌^◌, ◌≤◌};
-ghost use Rattle.task_lines.specs.Runs.{Lines, Listed};
+ghost use Rattle.std.specs.Prelude.{◌≡◌};
+ghost use Rattle.intake.specs.Heard.{Hearing, Heard};
+ghost use Rattle.recorder_lines.specs.Wants.{making_of};
+ghost use Rattle.task_lines.specs.Runs.{HeardAll};
 
-use channels::{Sent, nothing_sent, put};
-use intake::{Going, MOST_TURNS, advanced, goes_beside, goes_on, is_broken, opened, refilled};
+use channels::write_whole;
+use intake::{Going, advanced, goes_on, is_broken, opened, refilled};
 use recorder_lines::{Wanted, last_line, step};
 use recorder_rules::Recorder;
 use recorder_steps::start;
-use texts_printing::print_behind;
 
-// What is left of a whole input: how it ended, how many bytes were read and sent, and the recorder.
+// What is left of a whole input: whether it broke off, and the recorder.
 #[derive(Clone, Copy)]
 pub struct Run {
     pub going: Going,
-    pub read: u64,
-    pub sent: Sent,
     pub recorder: Recorder,
 }
 
 // Goes through a whole input and writes the lines of its frames. A proved loop has to end, and nothing says that the input does: the loop counts its turns
 // down, from a number that no run uses up.
 fn every_frame(wanted: Wanted, fd: i32) -> Run
-    ensures lines { Lines wanted [] result }
-    ensures little { result.sent.bytes ≤ 2 ^ 56 }
+    ensures { HeardAll (making_of wanted) result }
 {
     let mut r = start();
     let mut cursor = opened();
-    let mut sent = nothing_sent();
     let mut buf = io::buffer();
     let mut out = [0u8; 768];
-    let mut turns = MOST_TURNS;
+    let mut turns = u64::MAX;
     while turns > 0 {
         cursor = refilled(cursor, fd, &mut buf);
         let going = cursor.going;
@@ -41,9 +38,10 @@ fn every_frame(wanted: Wanted, fd: i32) -> Run
             let size = cursor.size;
             let from = cursor.from;
             let a = step(r, wanted, &buf[..size], from, &mut out);
-            sent = put(sent, 1, &out, a.size);
+            let n = a.size;
+            let written = write_whole(1, &out[..n]);
             let answer = a.answer;
-            cursor = advanced(cursor, a.used, sent.whole, answer);
+            cursor = advanced(cursor, a.used, written, answer);
             r = a.next;
             turns -= 1;
         } else {
@@ -51,45 +49,33 @@ fn every_frame(wanted: Wanted, fd: i32) -> Run
         }
     }
     let going = cursor.going;
-    Run {
-        going,
-        read: cursor.read,
-        sent,
-        recorder: r,
-    }
+    Run { going, recorder: r }
 }
 
 // Writes the lines of the frames in an open file, and the last line, but where a read or a write has failed.
 fn write_lines(wanted: Wanted, fd: i32) -> Run
-    ensures { Listed wanted result }
+    ensures { HeardAll (making_of wanted) result }
 {
     let run = every_frame(wanted, fd);
     let going = run.going;
-    if is_broken(going) {
-        return run;
+    if !is_broken(going) {
+        let recorder = run.recorder;
+        let sync = recorder.sync;
+        texts_printing::print(last_line(wanted, sync));
     }
-    let recorder = run.recorder;
-    let sync = recorder.sync;
-    let before = run.sent;
-    let sent = print_behind(before, last_line(wanted, sync));
-    Run {
-        going: goes_beside(sent.whole, going),
-        read: run.read,
-        sent,
-        recorder,
-    }
+    run
 }
 
 // Writes a line for each frame and each gap in an open file, and the last line; gives what was heard.
 pub fn list(fd: i32) -> Run
-    ensures { Listed Wanted.Listing result }
+    ensures { HeardAll (making_of Wanted.Listing) result }
 {
     write_lines(Wanted::Listing, fd)
 }
 
 // Writes a line for each frame with a move, and the last line; gives what was heard.
 pub fn slips(fd: i32) -> Run
-    ensures { Listed Wanted.Slips result }
+    ensures { HeardAll (making_of Wanted.Slips) result }
 {
     write_lines(Wanted::Slips, fd)
 }

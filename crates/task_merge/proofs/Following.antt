@@ -49,14 +49,13 @@ module _ (side : Side) where
       let few = used_few xs t.0.later c t.0.front (w.0 o.0) in
       ap (λ (l : List Input). merge_rest l cs) (drop-append-le c.answer.used xs es few) ∙ rest_wide cs (drop c.answer.used xs) es o.1 w.1 t.1
 
-  pub followed_read : (cs : List MergeCalled) (size : ℕ) (rest : List Input) (piece : List ℕ) (goes : Bool) → AllWithin side cs → rest ≡ [] → Followed side cs size rest true → Followed side cs (size + length piece) (dibits_of piece 0) goes
-  followed_read cs size rest piece goes w e f =
+  pub followed_read : (cs : List MergeCalled) (rest : List Input) (piece : List ℕ) (goes : Bool) → AllWithin side cs → rest ≡ [] → Followed side cs rest true → Followed side cs (dibits_of piece 0) goes
+  followed_read cs rest piece goes w e f =
       let still = f.still refl in
       let xs = dibits_of f.bytes 0 in
       let longer = dibits_append f.bytes piece in
       record {
         bytes = f.bytes ++ piece;
-        all = omega (arith, length-append f.bytes piece, f.all);
         through = subst (λ (l : List Input). OneThrough side l cs) (sym longer) (through_wide cs xs (dibits_of piece 0) still w f.through);
         left = ap (λ (l : List Input). merge_rest l cs) longer ∙ rest_wide cs xs (dibits_of piece 0) still w f.through ∙ ap (λ (l : List Input). l ++ dibits_of piece 0) (f.left ∙ e);
         still = λ o. still;
@@ -79,12 +78,11 @@ module _ (side : Side) where
   still_snoc [] c s o = (o, tt)
   still_snoc (b ∷ cs) c s o = (s.0, still_snoc cs c s.1 o)
 
-  pub followed_step : (cs : List MergeCalled) (size : ℕ) (rest : List Input) (goes next : Bool) (c : MergeCalled) → dibits_in (side c) ≡ rest → (next ≡ true → (goes ≡ true) × ((side c).over ≡ false)) → Followed side cs size rest goes
-      → Followed side (cs ++ (c ∷ [])) size (drop c.answer.used rest) next
-  followed_step cs size rest goes next c e o f =
+  pub followed_step : (cs : List MergeCalled) (rest : List Input) (goes next : Bool) (c : MergeCalled) → dibits_in (side c) ≡ rest → (next ≡ true → (goes ≡ true) × ((side c).over ≡ false)) → Followed side cs rest goes
+      → Followed side (cs ++ (c ∷ [])) (drop c.answer.used rest) next
+  followed_step cs rest goes next c e o f =
       record {
         bytes = f.bytes;
-        all = f.all;
         through = through_snoc cs (dibits_of f.bytes 0) c f.through (record { later = []; front = f.left ∙ sym e ∙ sym (append-nil (dibits_in (side c))); last = λ l. refl });
         left = rest_snoc cs (dibits_of f.bytes 0) c ∙ ap (drop c.answer.used) f.left;
         still = λ n. still_snoc cs c (f.still (o n).0) (o n).1;

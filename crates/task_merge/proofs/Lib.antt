@@ -1,5 +1,2 @@
-mod Goings
-mod Following
-mod Hearing
-mod Turning
-mod Ending
+pub mod Following
+pub mod Hearing

@@ -3,61 +3,38 @@
 
 #![tactic(auto)]
 
-ghost use Rattle.std.specs.Prelude.{false, not, [], ◌≡◌, ◌^◌, ◌≤◌};
+ghost use Rattle.std.specs.Prelude.{not, ◌≡◌};
 ghost use Rattle.frame_outcomes.specs.Outcomes.{tried_of};
 ghost use Rattle.intake.specs.Pieces.{SoundCursor, is_on};
 ghost use Rattle.merge_recorder_rules.specs.Steps.{ValidMerge, MergeSteppedBy};
-ghost use Rattle.intake.specs.Heard.{rest_in};
-ghost use Rattle.task_merge.specs.Heard.{both_go, either_broken};
-ghost use Rattle.task_merge.specs.Runs.{Recorded, Journal, merged_whole};
+ghost use Rattle.task_merge.specs.Heard.{rest_in};
+ghost use Rattle.task_merge.specs.Runs.{HeardBoth};
 
-use channels::{Sent, nothing_sent, put};
-use intake::{
-    Cursor, Going, MOST_TURNS, behind_write, beside, goes_on, is_broken, opened, refilled,
-};
+use channels::write_whole;
+use intake::{Cursor, Going, beside, goes_on, is_broken, opened, refilled};
 use merge_recorder::{MergeRecorder, MergeStepped, flush, start, step};
-use sync_inputs::Push;
 
-// What is left of two whole recordings: how each ended and how many bytes of it were read, how many bytes were sent, and the recorder.
+// What is left of two whole recordings: whether a read or a write has failed, and the recorder.
 #[derive(Clone, Copy)]
 pub struct Merged {
-    pub primary: Cursor,
-    pub alternate: Cursor,
-    pub sent: Sent,
+    pub broken: bool,
     pub recorder: MergeRecorder,
 }
 
 // Tells whether two streams go on: one of them does, and none broke off.
-fn both_go_on(one: Going, two: Going) -> bool
-    ensures { result ≡ both_go one two }
-{
+fn both_go_on(one: Going, two: Going) -> bool {
     if is_broken(one) {
         return false;
     }
     if is_broken(two) {
         return false;
     }
-    if goes_on(one) {
-        return true;
-    }
-    goes_on(two)
+    goes_on(one) || goes_on(two)
 }
 
 // Tells whether one of two streams broke off.
-fn one_broken(one: Going, two: Going) -> bool
-    ensures { result ≡ either_broken one two }
-{
-    if is_broken(one) {
-        return true;
-    }
-    is_broken(two)
-}
-
-// Says on standard error that a push was refused, by the refusal's number.
-fn say_refused(answer: Push) {
-    if let Push::Refused(refusal) = answer {
-        texts_printing::print_error(lines::refusal_line(refusal));
-    }
+fn one_broken(one: Going, two: Going) -> bool {
+    is_broken(one) || is_broken(two)
 }
 
 // Makes a step with what is left of the pieces of both streams, of which the cursors tell.
@@ -98,17 +75,15 @@ fn step_both(
 // Goes through two whole recordings and writes the records of what is ready. A proved loop has to end, and nothing says that the input does: the loop counts
 // its turns down, from a number that no run uses up.
 fn every_dibit(table: &[u8], primary: i32, alternate: i32) -> Merged
-    ensures recorded { Recorded (tried_of table.now) result.recorder [] result }
-    ensures little { result.sent.bytes ≤ 2 ^ 56 }
+    ensures { HeardBoth (tried_of table.now) result }
 {
     let mut r = start();
     let mut one = opened();
     let mut two = opened();
-    let mut sent = nothing_sent();
     let mut first = io::buffer();
     let mut second = io::buffer();
     let mut out = [0u8; 8192];
-    let mut turns = MOST_TURNS;
+    let mut turns = u64::MAX;
     while turns > 0 {
         one = refilled(one, primary, &mut first);
         two = refilled(two, alternate, &mut second);
@@ -116,21 +91,20 @@ fn every_dibit(table: &[u8], primary: i32, alternate: i32) -> Merged
         let there = two.going;
         if both_go_on(here, there) {
             let a = step_both(r, table, one, &first, two, &second, &mut out);
-            sent = put(sent, 1, &out, a.size);
-            let answer = a.answer;
-            say_refused(answer);
-            one = beside(one, a.used, sent.whole, answer);
-            two = beside(two, a.used, sent.whole, answer);
+            let size = a.size;
+            let written = write_whole(1, &out[..size]);
+            one = beside(one, a.used, written);
+            two = beside(two, a.used, written);
             r = a.next;
             turns -= 1;
         } else {
             turns = 0;
         }
     }
+    let here = one.going;
+    let there = two.going;
     Merged {
-        primary: one,
-        alternate: two,
-        sent,
+        broken: one_broken(here, there),
         recorder: r,
     }
 }
@@ -149,61 +123,35 @@ fn say_left_out(late: u64, double: u64, passed: u64, refused: u64) {
     texts_printing::print_error(lines::left_out_line(late, double, passed, refused));
 }
 
-// Says on standard error how many frames are not in the journal of a recorder, if there are any.
-fn say_counts(r: MergeRecorder) {
-    let work = r.work;
-    let answered = work.answered;
-    let gone = work.gone;
-    say_left_out(
-        answered.late,
-        answered.double,
-        gone.passed,
-        answered.refused,
-    );
-}
-
 // Writes the records of what still waits when both recordings have ended, and says how many frames are not in the journal.
-fn finish(table: &[u8], m: Merged) -> Merged
-    requires fact_1 { Recorded (tried_of table.now) m.recorder [] m }
-    requires fact_2 { either_broken m.primary.going m.alternate.going ≡ false }
-    requires fact_3 { m.sent.bytes ≤ 2 ^ 56 }
-    ensures { Journal (tried_of table.now) result }
+fn finish(r: MergeRecorder)
+    requires { ValidMerge r }
 {
     let mut out = [0u8; 8192];
-    let recorder = m.recorder;
-    let a = flush(recorder, &mut out);
-    let before = m.sent;
-    let sent = put(before, 1, &out, a.size);
-    let next = a.next;
-    if sent.whole {
-        say_counts(next);
-    }
-    let one = m.primary;
-    let two = m.alternate;
-    Merged {
-        primary: behind_write(one, sent.whole),
-        alternate: behind_write(two, sent.whole),
-        sent,
-        recorder: next,
+    let a = flush(r, &mut out);
+    let size = a.size;
+    if write_whole(1, &out[..size]) {
+        let next = a.next;
+        let work = next.work;
+        let answered = work.answered;
+        let gone = work.gone;
+        say_left_out(
+            answered.late,
+            answered.double,
+            gone.passed,
+            answered.refused,
+        );
     }
 }
 
 // Writes the journal of two open recordings, and gives what was heard; where a read or a write has failed nothing more is written.
 pub fn merge(table: &[u8], primary: i32, alternate: i32) -> Merged
-    ensures { Journal (tried_of table.now) result }
+    ensures { HeardBoth (tried_of table.now) result }
 {
     let merged = every_dibit(table, primary, alternate);
-    let one = merged.primary;
-    let two = merged.alternate;
-    let here = one.going;
-    let there = two.going;
-    if one_broken(here, there) {
-        return merged;
+    if !merged.broken {
+        let recorder = merged.recorder;
+        finish(recorder);
     }
-    finish(table, merged)
+    merged
 }
-
-// Of two recordings whose files have both ended: what was written is the journal of the merged frames of all their dibits.
-pub fn merged_whole()
-    ensures { merged_whole }
-{}

@@ -3,23 +3,20 @@
 
 #![tactic(auto)]
 
-ghost use Rattle.std.specs.Prelude.{◌≡◌, [], ◌^◌, ◌≤◌};
+ghost use Rattle.std.specs.Prelude.{◌≡◌, [], ◌≤◌};
 ghost use Rattle.recorder_asks.specs.Asks.{making_of};
 ghost use Rattle.texts_rules.specs.Text.{line_of};
-ghost use Rattle.task_records.specs.Runs.{Recorded, spoken_end, end_of};
+ghost use Rattle.task_records.specs.Runs.{HeardAll, spoken_end};
 
-use channels::{Sent, nothing_sent, put};
-use intake::{Going, MOST_TURNS, advanced, goes_beside, goes_on, is_broken, opened, refilled};
+use channels::write_whole;
+use intake::{Going, advanced, goes_on, is_broken, opened, refilled};
 use recorder::{Asked, Recorder, start, step};
-use texts_printing::print_behind;
 use texts_rules::Line;
 
-// What is left of a whole input: how it ended, how many bytes were read and sent, how many frames were accepted, and the recorder.
+// What is left of a whole input: whether it broke off, how many frames were accepted, and the recorder.
 #[derive(Clone, Copy)]
 pub struct Run {
     pub going: Going,
-    pub read: u64,
-    pub sent: Sent,
     pub accepted: u64,
     pub recorder: Recorder,
 }
@@ -27,16 +24,14 @@ pub struct Run {
 // Goes through a whole input and writes what is asked of its frames. A proved loop has to end, and nothing says that the input does: the loop counts its turns
 // down, from a number that no run uses up.
 fn every_frame(asked: Asked, fd: i32, table: &[u8]) -> Run
-    ensures recorded { Recorded (making_of asked table.now) [] result }
-    ensures little { result.sent.bytes ≤ 2 ^ 56 }
+    ensures { HeardAll (making_of asked table.now) result }
 {
     let mut r = start();
     let mut cursor = opened();
-    let mut sent = nothing_sent();
     let mut buf = io::buffer();
     let mut out = [0u8; 768];
     let mut accepted: u64 = 0;
-    let mut turns = MOST_TURNS;
+    let mut turns = u64::MAX;
     while turns > 0 {
         cursor = refilled(cursor, fd, &mut buf);
         let going = cursor.going;
@@ -44,9 +39,10 @@ fn every_frame(asked: Asked, fd: i32, table: &[u8]) -> Run
             let size = cursor.size;
             let from = cursor.from;
             let a = step(r, asked, table, &buf[..size], from, &mut out);
-            sent = put(sent, 1, &out, a.size);
+            let n = a.size;
+            let written = write_whole(1, &out[..n]);
             let answer = a.answer;
-            cursor = advanced(cursor, a.used, sent.whole, answer);
+            cursor = advanced(cursor, a.used, written, answer);
             accepted += a.accepted as u64;
             r = a.next;
             turns -= 1;
@@ -57,8 +53,6 @@ fn every_frame(asked: Asked, fd: i32, table: &[u8]) -> Run
     let going = cursor.going;
     Run {
         going,
-        read: cursor.read,
-        sent,
         accepted,
         recorder: r,
     }
@@ -66,14 +60,14 @@ fn every_frame(asked: Asked, fd: i32, table: &[u8]) -> Run
 
 // Writes the journal of the frames in an open file, untried, and gives what was heard.
 pub fn record(fd: i32) -> Run
-    ensures { Recorded (making_of Asked.Untried []) [] result }
+    ensures { HeardAll (making_of Asked.Untried []) result }
 {
     every_frame(Asked::Untried, fd, b"")
 }
 
 // Writes the journal of the frames in an open file, each decoded with the table, and gives what was heard.
 pub fn record_decoded(fd: i32, table: &[u8]) -> Run
-    ensures { Recorded (making_of Asked.Decoded table.now) [] result }
+    ensures { HeardAll (making_of Asked.Decoded table.now) result }
 {
     every_frame(Asked::Decoded, fd, table)
 }
@@ -89,22 +83,14 @@ fn speech_end(frames: u64, accepted: u64) -> Line
 // Writes the speech of each frame in an open file, or its refusal, with the gaps, and the last line, but where a read or a write has failed; gives what was
 // heard.
 pub fn speak(fd: i32, table: &[u8]) -> Run
-    ensures { Recorded (making_of Asked.Speech table.now) (end_of result) result }
+    ensures { HeardAll (making_of Asked.Speech table.now) result }
 {
     let run = every_frame(Asked::Speech, fd, table);
     let going = run.going;
-    if is_broken(going) {
-        return run;
+    if !is_broken(going) {
+        let recorder = run.recorder;
+        let sync = recorder.sync;
+        texts_printing::print(speech_end(sync.frames(), run.accepted));
     }
-    let recorder = run.recorder;
-    let sync = recorder.sync;
-    let before = run.sent;
-    let sent = print_behind(before, speech_end(sync.frames(), run.accepted));
-    Run {
-        going: goes_beside(sent.whole, going),
-        read: run.read,
-        sent,
-        accepted: run.accepted,
-        recorder,
-    }
+    run
 }

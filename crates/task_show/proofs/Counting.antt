@@ -1,26 +1,14 @@
--- The counts of records, how long their lines are, and what a record is.
+-- The counts of records: frames and gaps are records, and one record more is one more at most.
 -- Assumes nothing.
-use mathlib.Core.Path.{◌≡◌, refl}
+use mathlib.Core.Path.{◌≡◌, refl, sym, ap, ◌∙◌, subst}
 use mathlib.Core.List.{List, [], ◌∷◌}
-use Prim.Native.Nat.{ℕ, ◌+◌, ◌*◌, ◌≤◌}
+use Prim.Native.Nat.{ℕ, ◌+◌, ◌≤◌}
 use native.Mathlib.Omega.{arith}
-use lib.Dec.{eqb}
-use lib.ListN.{length, length-append}
-use borrow.Author.Tests.{eqb-true}
-use Rattle.bits.proofs.Conds.{cond_cases}
-use Rattle.bits.specs.declared.Refusal.TheVariants.{Record}
-use Rattle.journal_rules.specs.Reading.{say_of}
-use Rattle.journal_rules.specs.declared.Reading.{Reading}
-use Rattle.journal_rules.specs.declared.Reading.TheVariants.{Refused}
-use Rattle.lines_rules.specs.Entries.{shown_as}
+use Rattle.lines_rules.specs.Entries.{shown_record}
 use Rattle.lines_rules.specs.declared.What.{What}
 use Rattle.lines_rules.specs.declared.What.TheVariants.{AFrame, AGap, NoRecord}
-use Rattle.show_turns.proofs.Printing.{line_short}
-use Rattle.show_turns.specs.Records.{counted_as, shown_behind, line_behind}
-use Rattle.show_turns.specs.declared.Printed.{Printed}
-use Rattle.task_show.specs.Tallies.{printed_for, lines_for, AllRecords}
-
--- ---- frames and gaps are records
+use Rattle.task_show.specs.Tallies.{counted_as, none_printed, printed_for, Counts}
+use Rattle.task_show.specs.declared.Printed.{Printed}
 
 Sums : Printed → Type 0
 Sums p = p.records ≡ p.frames + p.gaps
@@ -34,40 +22,26 @@ counted_sums NoRecord p e = e
 sums : (rs : List (List ℕ)) → Sums (printed_for rs)
 unfolding printed_for Sums
 sums [] = refl
-sums (r ∷ rs) = counted_sums (shown_behind (printed_for rs) r).what (printed_for rs) (sums rs)
+sums (r ∷ rs) = counted_sums (shown_record r (printed_for rs).records).what (printed_for rs) (sums rs)
 
-pub sum : (rs : List (List ℕ)) → (printed_for rs).records ≡ (printed_for rs).frames + (printed_for rs).gaps
-unfolding Sums
-sum rs = sums rs
+module _ (p : Printed) (c : Counts p) where
+  pub sum : p.records ≡ p.frames + p.gaps
+  unfolding Sums
+  sum = subst Sums (sym c.counted) (sums c.read)
 
--- ---- each record is counted
+  pub one_more : (r : List ℕ) (w : What) (q : Printed) → w ≡ (shown_record r p.records).what → q ≡ counted_as w p → Counts q
+  unfolding printed_for
+  one_more r w q e f =
+      record {
+        read = r ∷ c.read;
+        counted = f ∙ ap (λ (z : What). counted_as z p) e ∙ ap (λ (z : Printed). counted_as (shown_record r z.records).what z) c.counted;
+      }
 
-one_more : (w : What) (p : Printed) → (w ≡ NoRecord → ⊥) → (counted_as w p).records ≡ p.records + 1
-one_more AFrame p h = refl
-one_more AGap p h = refl
-one_more NoRecord p h = absurd (h refl)
+pub few : (w : What) (p : Printed) → (counted_as w p).records ≤ p.records + 1
+few AFrame p = omega arith
+few AGap p = omega arith
+few NoRecord p = omega arith
 
-pub all_counted_lem : (rs : List (List ℕ)) → AllRecords rs → (printed_for rs).records ≡ length rs
-unfolding printed_for AllRecords
-all_counted_lem [] a = refl
-all_counted_lem (r ∷ rs) a = omega (arith, one_more (shown_behind (printed_for rs) r).what (printed_for rs) a.2, all_counted_lem rs a.0)
-
--- ---- a line is short
-
-pub lines_few : (rs : List (List ℕ)) → length (lines_for rs) ≤ 128 * length rs
-unfolding lines_for
-lines_few [] = omega arith
-lines_few (r ∷ rs) = omega (arith, length-append (lines_for rs) (line_behind (printed_for rs) r), line_short (printed_for rs) r, lines_few rs)
-
--- ---- a record has 64 bytes
-
-what_by : ℕ → Reading → What
-what_by n x = (shown_as x n).what
-
-pub record_long : (p : Printed) (r : List ℕ) → ((shown_behind p r).what ≡ NoRecord → ⊥) → length r ≡ 64
-unfolding what_by
-record_long p r h =
-    cond_cases (λ (x : Reading). (what_by p.records x ≡ NoRecord → ⊥) → length r ≡ 64) (eqb (length r) 64) (say_of r) (Refused Record)
-    (λ e no. eqb-true (length r) 64 e)
-    (λ e no. absurd (no refl))
-    h
+pub none_yet : Counts none_printed
+unfolding printed_for
+none_yet = record { read = []; counted = refl }

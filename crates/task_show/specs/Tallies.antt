@@ -1,24 +1,26 @@
--- A journal's records, the last one read first: their lines and their counts.
+-- What `show` counts: every record that was read, by what it is.
 -- Assumes nothing.
-use Rattle.std.specs.Prelude.{◌≡◌, List, [], ◌∷◌, ◌++◌, ℕ, length}
-use Rattle.lines_rules.specs.declared.What.TheVariants.{NoRecord}
-use Rattle.show_turns.specs.Records.{shown_behind, line_behind, counted_behind}
-use Rattle.show_turns.specs.declared.Printed.{Printed}
+use Rattle.std.specs.Prelude.{◌≡◌, List, [], ◌∷◌, ℕ, ◌+◌}
+use Rattle.lines_rules.specs.Entries.{shown_record}
+use Rattle.lines_rules.specs.declared.What.{What}
+use Rattle.lines_rules.specs.declared.What.TheVariants.{AFrame, AGap, NoRecord}
+use Rattle.task_show.specs.declared.Printed.{Printed}
+
+-- one record more
+abbrev pub counted_as : What → Printed → Printed
+counted_as AFrame p = record { records = p.records + 1; frames = p.frames + 1; gaps = p.gaps }
+counted_as AGap p = record { records = p.records + 1; frames = p.frames; gaps = p.gaps + 1 }
+counted_as NoRecord p = p
 
 abbrev pub none_printed : Printed
 none_printed = record { records = 0; frames = 0; gaps = 0 }
 
--- their counts
+-- the counts of records, the last one read first: each has the number of those before it
 unfoldable pub printed_for : List (List ℕ) → Printed
 printed_for [] = none_printed
-printed_for (r ∷ rs) = counted_behind (printed_for rs) r
+printed_for (r ∷ rs) = counted_as (shown_record r (printed_for rs).records).what (printed_for rs)
 
--- their lines, one behind the other
-unfoldable pub lines_for : List (List ℕ) → List ℕ
-lines_for [] = []
-lines_for (r ∷ rs) = lines_for rs ++ line_behind (printed_for rs) r
-
--- each of them is a record, of 64 bytes
-unfoldable pub AllRecords : List (List ℕ) → Type 0
-AllRecords [] = Unit {0}
-AllRecords (r ∷ rs) = AllRecords rs × (length r ≡ 64) × ((shown_behind (printed_for rs) r).what ≡ NoRecord → ⊥)
+-- there are records that were read, and these are their counts
+pub record Counts (p : Printed) : Type 0 where
+  pub read : List (List ℕ)
+  pub counted : p ≡ printed_for read

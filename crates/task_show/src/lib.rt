@@ -1,85 +1,123 @@
-// Carries out the program `show`: reads a journal from an open file, and writes a line for each record to standard output. Here is only the loop that reads and
-// calls; what is printed and counted of a record is promised by crate `show_turns`.
+// Carries out the program `show`: reads a journal from an open file, and writes a line for each record to standard output. The line is made by
+// `lines_records::show_record`; this crate reads, counts and prints.
 
 #![tactic(auto)]
 
-ghost use Rattle.std.specs.Prelude.{◌≡◌};
-ghost use Rattle.show_turns.specs.Turns.{Countable};
-ghost use Rattle.task_show.specs.Runs.{came_as, goes_on, none_shown, Turned, ShowsAll};
+ghost use Rattle.std.specs.Prelude.{◌≡◌, ◌+◌, ◌<◌, ◌≤◌, ◌^◌};
+ghost use Rattle.task_show.specs.Tallies.{counted_as, none_printed, Counts};
 
-use channels::{Filled, Intake, nothing_sent, read_whole};
-use show_turns::show_came;
-pub use show_turns::{Ending, Printed, Run};
+use channels::read_whole;
+use lines_rules::What;
+use texts_printing::print;
 
-// The turns of the loop: each one reads a record, and what so many of them print can be counted.
-const MOST_RECORDS: u64 = 72057594037927936;
+// How many records, frames and gaps were printed.
+#[derive(Clone, Copy)]
+pub struct Printed {
+    pub records: u64,
+    pub frames: u64,
+    pub gaps: u64,
+}
 
-// Says that nothing was read yet.
-fn none_shown() -> Run
-    ensures { result ≡ none_shown }
+// What was printed so far, and whether to go on.
+#[derive(Clone, Copy)]
+struct Tally {
+    go: bool,
+    printed: Printed,
+}
+
+// Counts a record as a frame or a gap; what is no record is not counted.
+fn counted(p: Printed, what: What) -> Printed
+    requires fact_1 { p.records + 1 < 2 ^ 64 }
+    requires fact_2 { p.frames ≤ p.records }
+    requires fact_3 { p.gaps ≤ p.records }
+    ensures { result ≡ counted_as what p }
 {
-    let printed = Printed {
+    match what {
+        What::AFrame => Printed {
+            records: p.records + 1,
+            frames: p.frames + 1,
+            gaps: p.gaps,
+        },
+        What::AGap => Printed {
+            records: p.records + 1,
+            frames: p.frames,
+            gaps: p.gaps + 1,
+        },
+        What::NoRecord => p,
+    }
+}
+
+// Tells whether a record came, so that another one may follow.
+fn is_record(what: What) -> bool {
+    match what {
+        What::AFrame => true,
+        What::AGap => true,
+        What::NoRecord => false,
+    }
+}
+
+// Prints the line of a record, what the input holds of it, and says whether to go on: not behind what is no record, nor where its line could not be written.
+fn show_bytes(record: &[u8], p: Printed) -> Tally
+    requires fact_1 { Counts p }
+    requires fact_2 { p.records + 1 < 2 ^ 64 }
+    ensures counts { Counts result.printed }
+    ensures few { result.printed.records ≤ p.records + 1 }
+{
+    let shown = lines_records::show_record(record, p.records);
+    let line = shown.line;
+    let what = shown.what;
+    let written = print(line);
+    Tally {
+        go: written && is_record(what),
+        printed: counted(p, what),
+    }
+}
+
+// Prints the next record, or the last line where none is left, and says whether to go on. Nothing more is printed where a read has failed.
+fn show_one(fd: i32, p: Printed) -> Tally
+    requires fact_1 { Counts p }
+    requires fact_2 { p.records + 1 < 2 ^ 64 }
+    ensures counts { Counts result.printed }
+    ensures few { result.printed.records ≤ p.records + 1 }
+{
+    let mut record = [0u8; 64];
+    let filled = read_whole(fd, &mut record);
+    let n = filled.bytes;
+    if filled.failed {
+        return Tally {
+            go: false,
+            printed: p,
+        };
+    }
+    if n == 0 {
+        print(lines::end_line(p.records, p.frames, p.gaps));
+        return Tally {
+            go: false,
+            printed: p,
+        };
+    }
+    show_bytes(&record[..n], p)
+}
+
+// Prints the whole journal and gives its counts. A proved loop has to end, and nothing says that the input does: the loop counts its turns down, from a
+// number that no run uses up.
+pub fn show(fd: i32) -> Printed
+    ensures { Counts result }
+{
+    let mut p = Printed {
         records: 0,
         frames: 0,
         gaps: 0,
     };
-    Run {
-        ending: Ending::Endless,
-        sent: nothing_sent(),
-        printed,
-    }
-}
-
-// Tells whether another record may follow.
-fn goes_on(ending: Ending) -> bool
-    ensures { result ≡ goes_on ending }
-{
-    match ending {
-        Ending::Whole => false,
-        Ending::Refused => false,
-        Ending::Broken => false,
-        Ending::Endless => true,
-    }
-}
-
-// Tells what the reading of a record gave: a failure, the end of the file, or what is there of a record.
-fn came(filled: Filled) -> Intake
-    ensures { result ≡ came_as filled }
-{
-    if filled.failed {
-        return Intake::Failed;
-    }
-    if filled.bytes == 0 {
-        return Intake::Ended;
-    }
-    Intake::Bytes(filled.bytes)
-}
-
-// Reads the next record, or what the file has of it, and prints it.
-fn show_one(fd: i32, run: Run) -> Run
-    requires { Countable run }
-    ensures { Turned run result }
-{
-    let mut record = [0u8; 64];
-    let filled = read_whole(fd, &mut record);
-    show_came(came(filled), &record, run)
-}
-
-// Prints the whole journal, and gives what was printed. A proved loop has to end, and nothing says that the input does: the loop counts its turns down, from a
-// number that no run uses up.
-pub fn show(fd: i32) -> Run
-    ensures { ShowsAll result }
-{
-    let mut run = none_shown();
-    let mut turns = MOST_RECORDS;
+    let mut turns = u64::MAX;
     while turns > 0 {
-        run = show_one(fd, run);
-        let ending = run.ending;
-        if goes_on(ending) {
+        let t = show_one(fd, p);
+        p = t.printed;
+        if t.go {
             turns -= 1;
         } else {
             turns = 0;
         }
     }
-    run
+    p
 }

@@ -6,7 +6,7 @@ use lib.Seq.{length-take-le}
 use Rattle.frame_outcomes.specs.Outcomes.{tried_of}
 use Rattle.intake.specs.Pieces.{is_on}
 use Rattle.merge_recorder_rules.specs.Steps.{MergeSteppedBy}
-use Rattle.intake.specs.Heard.{rest_in}
+use Rattle.task_merge.specs.Heard.{rest_in}
 use borrow.Author.Rules.{rules}
 use Rattle.task_merge.proofs.step_both.Statement.{statement}
 use Rattle.task_merge.proofs.step_both.Tie as tie

@@ -1,34 +1,17 @@
--- `show` ends: the measure is the number of turns that are left.
+-- `show` ends: the measure is the number of turns that are left. There are records of which the counts are, and their number fits: there are no more than turns.
 -- Assumes nothing.
-use mathlib.Core.Path.{sym, ◌∙◌}
+use Prim.Native.Nat.{◌+◌, ◌^◌, ◌<◌}
 use native.Mathlib.Omega.{arith}
-use borrow.Author.Rules.{rules}
-use Rattle.task_show.proofs.Showing.{Turning, turning_start, turn_countable, turn_next, turn_over}
+use Rattle.task_show.specs.Tallies.{Counts}
+use Rattle.task_show.proofs.Counting.{none_yet}
 use Rattle.task_show.proofs.show.Statement.{statement}
 use Rattle.task_show.proofs.show.Tie as tie
 
 abbrev invariant-loop : tie.invariant-loop
-invariant-loop fd run₀ turns₀ run turns = Turning run turns
+invariant-loop fd p₀ turns₀ p turns = Counts p × (p.records + turns < 2 ^ 64)
 
 abbrev decreases-loop : tie.decreases-loop
-decreases-loop fd run₀ turns₀ run turns = turns
-
-show-one-requires : tie.Need-show-one-requires invariant-loop decreases-loop
-show-one-requires c κs = let l = c.before.loop in turn_countable l.run l.turns l.invariant c.loop-test.true
-
-loop-again : tie.Need-loop-preserved invariant-loop decreases-loop
-loop-again c =
-    let test = c.before.before.before in
-    let l = test.before.loop in
-    let one = c.before.before.show-one in
-    turn_next l.run l.turns l.invariant test.loop-test.true one.result one.ensures (sym c.before.goes_on.ensures ∙ c.if1.true)
-
-loop-again-2 : tie.Need-loop-preserved-2 invariant-loop decreases-loop
-loop-again-2 c =
-    let test = c.before.before.before in
-    let l = test.before.loop in
-    let one = c.before.before.show-one in
-    turn_over l.run l.turns l.invariant test.loop-test.true one.result one.ensures (sym c.before.goes_on.ensures ∙ c.if1.false)
+decreases-loop fd p₀ turns₀ p turns = turns
 
 pub show-spec : {M : Type 1} → statement M
 show-spec =
@@ -36,13 +19,11 @@ show-spec =
     (tie.spec
     invariant-loop
     decreases-loop
-    (λ c κs. search rules)
-    (λ c. turning_start c.none_shown_lem.result c.none_shown_lem.ensures)
-    show-one-requires
-    (λ c κs. search rules)
-    (λ c. omega (arith, c.before.before.before.loop-test.true))
-    (λ c. omega (arith, c.before.before.before.loop-test.true))
-    loop-again
-    (λ c. omega (arith, c.before.before.before.loop-test.true))
-    loop-again-2
-    (λ c. c.before.loop.invariant.over (omega (arith, c.loop-test.false))))
+    (λ c. (none_yet, omega arith))
+    (λ c κs. (c.before.loop.invariant.0, omega (arith, c.before.loop.invariant.1)))
+    (λ c. omega arith)
+    (λ c. omega arith)
+    (λ c. (c.before.before.show-one.ensures.0, omega (arith, c.before.before.show-one.ensures.1)))
+    (λ c. omega arith)
+    (λ c. (c.before.before.show-one.ensures.0, omega (arith, c.before.before.show-one.ensures.1)))
+    (λ c. c.before.loop.invariant.0))
