@@ -37,7 +37,7 @@ pub record SoundCursor (c : Cursor) (buffer : List ℕ) : Type 0 where
 abbrev pub came_as : Intake → Cursor
 came_as (read.Bytes n) = cursor_at n 0 On
 came_as read.Ended = cursor_at 0 0 Ended
-came_as read.Failed = cursor_at 0 0 Broken
+came_as (read.Failed reason) = cursor_at 0 0 Broken
 
 -- another piece was read: the stream went on, all dibits of the last one were used, and it begins with its first dibit
 pub record NewPiece (c r : Cursor) : Type 0 where

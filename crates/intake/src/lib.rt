@@ -1,4 +1,4 @@
-// Which bytes of an open file are handed on next. What a read gives is a piece, however short, and is handed on at once: its dibits are used up before the next
+// Which bytes of an input are handed on next. What a read gives is a piece, however short, and is handed on at once: its dibits are used up before the next
 // read. A cursor goes from call to call by value; the piece lies at the front of lent memory.
 //
 // specs/Pieces.antt says what a cursor is and what a read does to it, specs/Heard.antt that the dibits handed to a recorder are those of the bytes read.
@@ -8,7 +8,9 @@
 ghost use Rattle.std.specs.Prelude.{◌≡◌, true, ◌+◌, ◌*◌, ◌-◌, ◌≤◌, min, length};
 ghost use Rattle.intake.specs.Pieces.{cursor_at, is_on, going_after, going_beside, SoundCursor, RefilledBy, came_as};
 
-use channels::{Intake, read_some};
+use channels::{Desk, Intake, read_some};
+use std::io::{Read, Write};
+use std::rt::Clock;
 use sync_inputs::Push;
 
 // Whether a stream goes on, has ended, or broke off: a read or a write has failed, and nothing may be written any more.
@@ -72,12 +74,17 @@ fn came(intake: Intake) -> Cursor
     match intake {
         Intake::Bytes(n) => piece_of(n, Going::On),
         Intake::Ended => piece_of(0, Going::Ended),
-        Intake::Failed => piece_of(0, Going::Broken),
+        Intake::Failed(_) => piece_of(0, Going::Broken),
     }
 }
 
 // Reads the next piece where the stream goes on and all dibits of the last one are used; else it gives the cursor as it is.
-pub fn refilled(c: Cursor, fd: i32, buf: &mut [u8]) -> Cursor
+pub fn refilled<R: Read, W: Write, E: Write, C: Clock>(
+    c: Cursor,
+    input: &mut R,
+    buf: &mut [u8],
+    desk: &mut Desk<W, E, C>,
+) -> Cursor
     requires fact_1 { SoundCursor c buf.old }
     requires fact_2 { length buf.old ≤ 4096 }
     ensures refilled { RefilledBy buf.old buf.new c result }
@@ -91,11 +98,15 @@ pub fn refilled(c: Cursor, fd: i32, buf: &mut [u8]) -> Cursor
     if c.from < 4 * c.size {
         return c;
     }
-    came(read_some(fd, buf))
+    came(read_some(input, buf, desk))
 }
 
 // Tells whether a stream goes on behind a step: not where what it made could not be written, nor where a push was refused, which it says by its number.
-fn goes_behind(written: bool, answer: Push) -> Going
+fn goes_behind<W: Write, E: Write, C: Clock>(
+    written: bool,
+    answer: Push,
+    desk: &mut Desk<W, E, C>,
+) -> Going
     ensures { result ≡ going_after written answer }
 {
     if !written {
@@ -104,21 +115,27 @@ fn goes_behind(written: bool, answer: Push) -> Going
     match answer {
         Push::Taken => Going::On,
         Push::Refused(refusal) => {
-            texts_printing::print_error(lines::refusal_line(refusal));
+            texts_printing::print_error(lines::refusal_line(refusal), desk);
             Going::Ended
         }
     }
 }
 
 // Gives the cursor behind a step that used so many dibits, whether what it made was written, and what its last push answered.
-pub fn advanced(c: Cursor, used: usize, written: bool, answer: Push) -> Cursor
+pub fn advanced<W: Write, E: Write, C: Clock>(
+    c: Cursor,
+    used: usize,
+    written: bool,
+    answer: Push,
+    desk: &mut Desk<W, E, C>,
+) -> Cursor
     requires { c.from + used ≤ 16384 }
     ensures { result ≡ cursor_at c.size (c.from + used) (going_after written answer) }
 {
     Cursor {
         size: c.size,
         from: c.from + used,
-        going: goes_behind(written, answer),
+        going: goes_behind(written, answer, desk),
     }
 }
 

@@ -10,9 +10,11 @@ ghost use Rattle.merge_recorder_rules.specs.Steps.{ValidMerge, MergeSteppedBy};
 ghost use Rattle.task_merge.specs.Heard.{rest_in};
 ghost use Rattle.task_merge.specs.Runs.{HeardBoth};
 
-use channels::write_whole;
+use channels::{Desk, write_whole};
 use intake::{Cursor, Going, beside, goes_on, is_broken, opened, refilled};
 use merge_recorder::{MergeRecorder, MergeStepped, flush, start, step};
+use std::io::{Read, Write};
+use std::rt::Clock;
 
 // What is left of two whole recordings: whether a read or a write has failed, and the recorder.
 #[derive(Clone, Copy)]
@@ -74,7 +76,12 @@ fn step_both(
 
 // Goes through two whole recordings and writes the records of what is ready. A proved loop has to end, and nothing says that the input does: the loop counts
 // its turns down, from a number that no run uses up.
-fn every_dibit(table: &[u8], primary: i32, alternate: i32) -> Merged
+fn every_dibit<P: Read, A: Read, W: Write, E: Write, C: Clock>(
+    table: &[u8],
+    primary: &mut P,
+    alternate: &mut A,
+    desk: &mut Desk<W, E, C>,
+) -> Merged
     ensures { HeardBoth (tried_of table.now) result }
 {
     let mut r = start();
@@ -85,14 +92,14 @@ fn every_dibit(table: &[u8], primary: i32, alternate: i32) -> Merged
     let mut out = [0u8; 8192];
     let mut turns = u64::MAX;
     while turns > 0 {
-        one = refilled(one, primary, &mut first);
-        two = refilled(two, alternate, &mut second);
+        one = refilled(one, primary, &mut first, desk);
+        two = refilled(two, alternate, &mut second, desk);
         let here = one.going;
         let there = two.going;
         if both_go_on(here, there) {
             let a = step_both(r, table, one, &first, two, &second, &mut out);
             let size = a.size;
-            let written = write_whole(1, &out[..size]);
+            let written = write_whole(&out[..size], desk);
             one = beside(one, a.used, written);
             two = beside(two, a.used, written);
             r = a.next;
@@ -110,7 +117,13 @@ fn every_dibit(table: &[u8], primary: i32, alternate: i32) -> Merged
 }
 
 // Says on standard error how many frames are not in the journal, if there are any.
-fn say_left_out(late: u64, double: u64, passed: u64, refused: u64) {
+fn say_left_out<W: Write, E: Write, C: Clock>(
+    late: u64,
+    double: u64,
+    passed: u64,
+    refused: u64,
+    desk: &mut Desk<W, E, C>,
+) {
     if late == 0 {
         if double == 0 {
             if passed == 0 {
@@ -120,17 +133,17 @@ fn say_left_out(late: u64, double: u64, passed: u64, refused: u64) {
             }
         }
     }
-    texts_printing::print_error(lines::left_out_line(late, double, passed, refused));
+    texts_printing::print_error(lines::left_out_line(late, double, passed, refused), desk);
 }
 
 // Writes the records of what still waits when both recordings have ended, and says how many frames are not in the journal.
-fn finish(r: MergeRecorder)
+fn finish<W: Write, E: Write, C: Clock>(r: MergeRecorder, desk: &mut Desk<W, E, C>)
     requires { ValidMerge r }
 {
     let mut out = [0u8; 8192];
     let a = flush(r, &mut out);
     let size = a.size;
-    if write_whole(1, &out[..size]) {
+    if write_whole(&out[..size], desk) {
         let next = a.next;
         let work = next.work;
         let answered = work.answered;
@@ -140,18 +153,24 @@ fn finish(r: MergeRecorder)
             answered.double,
             gone.passed,
             answered.refused,
+            desk,
         );
     }
 }
 
 // Writes the journal of two open recordings, and gives what was heard; where a read or a write has failed nothing more is written.
-pub fn merge(table: &[u8], primary: i32, alternate: i32) -> Merged
+pub fn merge<P: Read, A: Read, W: Write, E: Write, C: Clock>(
+    table: &[u8],
+    primary: &mut P,
+    alternate: &mut A,
+    desk: &mut Desk<W, E, C>,
+) -> Merged
     ensures { HeardBoth (tried_of table.now) result }
 {
-    let merged = every_dibit(table, primary, alternate);
+    let merged = every_dibit(table, primary, alternate, desk);
     if !merged.broken {
         let recorder = merged.recorder;
-        finish(recorder);
+        finish(recorder, desk);
     }
     merged
 }

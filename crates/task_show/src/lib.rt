@@ -6,8 +6,10 @@
 ghost use Rattle.std.specs.Prelude.{◌≡◌, ◌+◌, ◌<◌, ◌≤◌, ◌^◌};
 ghost use Rattle.task_show.specs.Tallies.{counted_as, none_printed, Counts};
 
-use channels::read_whole;
+use channels::{Desk, read_whole};
 use lines_rules::What;
+use std::io::{Read, Write};
+use std::rt::Clock;
 use texts_printing::print;
 
 // How many records, frames and gaps were printed.
@@ -57,7 +59,11 @@ fn is_record(what: What) -> bool {
 }
 
 // Prints the line of a record, what the input holds of it, and says whether to go on: not behind what is no record, nor where its line could not be written.
-fn show_bytes(record: &[u8], p: Printed) -> Tally
+fn show_bytes<W: Write, E: Write, C: Clock>(
+    record: &[u8],
+    p: Printed,
+    desk: &mut Desk<W, E, C>,
+) -> Tally
     requires fact_1 { Counts p }
     requires fact_2 { p.records + 1 < 2 ^ 64 }
     ensures counts { Counts result.printed }
@@ -66,7 +72,7 @@ fn show_bytes(record: &[u8], p: Printed) -> Tally
     let shown = lines_records::show_record(record, p.records);
     let line = shown.line;
     let what = shown.what;
-    let written = print(line);
+    let written = print(line, desk);
     Tally {
         go: written && is_record(what),
         printed: counted(p, what),
@@ -74,34 +80,38 @@ fn show_bytes(record: &[u8], p: Printed) -> Tally
 }
 
 // Prints the next record, or the last line where none is left, and says whether to go on. Nothing more is printed where a read has failed.
-fn show_one(fd: i32, p: Printed) -> Tally
+fn show_one<R: Read, W: Write, E: Write, C: Clock>(
+    input: &mut R,
+    p: Printed,
+    desk: &mut Desk<W, E, C>,
+) -> Tally
     requires fact_1 { Counts p }
     requires fact_2 { p.records + 1 < 2 ^ 64 }
     ensures counts { Counts result.printed }
     ensures few { result.printed.records ≤ p.records + 1 }
 {
     let mut record = [0u8; 64];
-    let filled = read_whole(fd, &mut record);
+    let filled = read_whole(input, &mut record, desk);
     let n = filled.bytes;
-    if filled.failed {
+    if filled.failed.is_some() {
         return Tally {
             go: false,
             printed: p,
         };
     }
     if n == 0 {
-        print(lines::end_line(p.records, p.frames, p.gaps));
+        print(lines::end_line(p.records, p.frames, p.gaps), desk);
         return Tally {
             go: false,
             printed: p,
         };
     }
-    show_bytes(&record[..n], p)
+    show_bytes(&record[..n], p, desk)
 }
 
 // Prints the whole journal and gives its counts. A proved loop has to end, and nothing says that the input does: the loop counts its turns down, from a
 // number that no run uses up.
-pub fn show(fd: i32) -> Printed
+pub fn show<R: Read, W: Write, E: Write, C: Clock>(input: &mut R, desk: &mut Desk<W, E, C>) -> Printed
     ensures { Counts result }
 {
     let mut p = Printed {
@@ -111,7 +121,7 @@ pub fn show(fd: i32) -> Printed
     };
     let mut turns = u64::MAX;
     while turns > 0 {
-        let t = show_one(fd, p);
+        let t = show_one(input, p, desk);
         p = t.printed;
         if t.go {
             turns -= 1;

@@ -10,10 +10,10 @@ use Rattle.merging_records.proofs.put_release.Goals as goal
 
 pub put_frame-requires : goal.put_frame-requires
 put_frame-requires c =
-     record { fact_1 = c.requires.fact_3.1; fact_2 = c.requires.fact_3.2; fact_3 = c.envelope_for-envelope.ensures.size; fact_4 = c.requires.fact_4; fact_5 = omega arith }
+    record { fact_1 = c.requires.fact_3.1; fact_2 = c.requires.fact_3.2; fact_3 = c.envelope_for-envelope.ensures.size; fact_4 = c.requires.fact_4; fact_5 = omega arith }
 
 pub returns : goal.returns
 returns c =
     let a = c.args in
     let l = frame_laid a.shelf a.freed a.r _ _ _ a.laid c.put_frame.result c.envelope_for-envelope.ensures.result_value (c.put_frame.ensures (said _) refl) in
-     record { frames_laid = l; few = omega (arith, l.size, frame_few a.laid.earlier (framed_from a.shelf a.freed a.r) (ap length (sym c.envelope_for-envelope.ensures.result_value) ∙ c.envelope_for-envelope.ensures.size)) }
+    record { frames_laid = l; few = omega (arith, l.size, frame_few a.laid.earlier (framed_from a.shelf a.freed a.r) (ap length (sym c.envelope_for-envelope.ensures.result_value) ∙ c.envelope_for-envelope.ensures.size)) }

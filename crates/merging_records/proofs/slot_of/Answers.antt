@@ -5,4 +5,4 @@ use Rattle.merging_shelf.specs.Slots.{IsSlot}
 use Rattle.merging_records.proofs.slot_of.Goals as goal
 
 pub returns-in-Number : goal.returns-in-Number
-returns-in-Number c =  record { value = rw c.in-Number.is; few = subst IsSlot c.in-Number.is c.requires }
+returns-in-Number c = record { value = rw c.in-Number.is; few = subst IsSlot c.in-Number.is c.requires }

@@ -19,7 +19,7 @@ loop-work-init c =
 pub release_first-moved-requires : goal.release_first-moved-requires
 release_first-moved-requires c =
     let inv = c.loop-work.invariant in
-     record { fact_1 = inv.3; fact_2 = inv.4; fact_3 = omega (arith, inv.5, inv.6, inv.7) }
+    record { fact_1 = inv.3; fact_2 = inv.4; fact_3 = omega (arith, inv.5, inv.6, inv.7) }
 
 pub loop-work-smaller : goal.loop-work-smaller
 loop-work-smaller c = omega (arith, c.loop-work-test.true)
@@ -49,4 +49,4 @@ pub returns : goal.returns
 returns c =
     let inv = c.loop-work.invariant in
     let idle = inv.8 (omega (arith, inv.0, c.loop-work-test.false)) in
-     record { valid = inv.3; moved = as_often _ _ _ c.args.w _ _ _ _ c.loop-work.work _ inv.9 16 (omega (arith, inv.2)) idle; reserved = inv.5; idle = idle }
+    record { valid = inv.3; moved = as_often _ _ _ c.args.w _ _ _ _ c.loop-work.work _ inv.9 16 (omega (arith, inv.2)) idle; reserved = inv.5; idle = idle }

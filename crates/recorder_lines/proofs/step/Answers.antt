@@ -19,7 +19,7 @@ lay_frames-laid-requires c =
     let a = c.args in
     let room = room_lent a.wanted (length a.out.now) _ c.room_for-size.ensures in
     let fits = fed_fitting (making_of a.wanted) a.out.now a.bytes.now a.from a.r c.requires _ _ room c.feed_packed-fed.result c.feed_packed-fed.ensures in
-     record { fact_1 = fits.few; fact_2 = λ h. omega (arith, fits.memory h, wanted_need a.wanted) }
+    record { fact_1 = fits.few; fact_2 = λ h. omega (arith, fits.memory h, wanted_need a.wanted) }
 
 pub returns : goal.returns
 returns c =

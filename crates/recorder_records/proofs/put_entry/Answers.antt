@@ -7,4 +7,4 @@ use Rattle.recorder_records.proofs.put_entry.Goals as goal
 pub returns : goal.returns
 returns c =
     let a = c.args in
-     record { size = refl; stored = put_record a.out.now a.at a.entry a.envelope.now _ _ c.requires.fact_3 c.write.ensures c.requires.fact_2 c.requires.fact_1 }
+    record { size = refl; stored = put_record a.out.now a.at a.entry a.envelope.now _ _ c.requires.fact_3 c.write.ensures c.requires.fact_2 c.requires.fact_1 }

@@ -32,7 +32,7 @@ unfolding figures
 put_entry-size-requires c =
     let a = c.args in
     let same : length c.put_gap-at.new.out ≡ length a.out.now = search rules in
-    let is = sym c.frame_entry-entry.ensures in  record { fact_1 = subst (λ (e : Entry). allowed e ≡ true) is (frame_allowed a.head.offset (figures a.head a.tried) c.requires.fact_1.ends c.requires.fact_1.errors c.requires.fact_2); fact_2 = subst (λ (e : Entry). size_fits e.body (length a.envelope.now) ≡ true) is (eq-eqb _ _ c.requires.fact_3); fact_3 = omega (arith, c.requires.fact_4, c.put_gap-at.ensures.few) }
+    let is = sym c.frame_entry-entry.ensures in record { fact_1 = subst (λ (e : Entry). allowed e ≡ true) is (frame_allowed a.head.offset (figures a.head a.tried) c.requires.fact_1.ends c.requires.fact_1.errors c.requires.fact_2); fact_2 = subst (λ (e : Entry). size_fits e.body (length a.envelope.now) ≡ true) is (eq-eqb _ _ c.requires.fact_3); fact_3 = omega (arith, c.requires.fact_4, c.put_gap-at.ensures.few) }
 
 pub overflow_add-result : goal.overflow_add-result
 overflow_add-result c =

@@ -9,7 +9,7 @@ pub put_entry-requires : goal.put_entry-requires
 put_entry-requires c =
     let a = c.args in
     let is = sym c.gap_to-between.ensures ∙ c.in-Gap.is in
-     record { fact_1 = gap_allowed a.earlier a.next _ c.requires.fact_1 is; fact_2 = gap_sized a.earlier a.next _ c.requires.fact_1 is; fact_3 = omega (arith, c.requires.fact_2) }
+    record { fact_1 = gap_allowed a.earlier a.next _ c.requires.fact_1 is; fact_2 = gap_sized a.earlier a.next _ c.requires.fact_1 is; fact_3 = omega (arith, c.requires.fact_2) }
 
 pub returns-in-NoGap : goal.returns-in-NoGap
 returns-in-NoGap c =

@@ -20,7 +20,7 @@ put_line-behind-requires c =
     let b = gap_to a.before.earlier a.head.offset in
     let long = line_size c.gap_before-gap.result (between_text b) c.gap_before-gap.ensures in
     let few = between_short b in
-     record { fact_1 = omega arith; fact_2 = omega (arith, c.requires.fact_1) }
+    record { fact_1 = omega arith; fact_2 = omega (arith, c.requires.fact_1) }
 
 pub put_line-size-requires : goal.put_line-size-requires
 put_line-size-requires c =
@@ -31,7 +31,7 @@ put_line-size-requires c =
     let few = answer_few a.head.offset d.decoding d.payload in
     let at = c.put_line-behind.ensures.end (between_text b) c.gap_before-gap.ensures in
     let same : length c.put_line-behind.new.out ≡ length a.out.now = search rules in
-     record { fact_1 = omega arith; fact_2 = omega (arith, c.requires.fact_1, between_short b) }
+    record { fact_1 = omega arith; fact_2 = omega (arith, c.requires.fact_1, between_short b) }
 
 pub overflow_add-result : goal.overflow_add-result
 overflow_add-result c =
