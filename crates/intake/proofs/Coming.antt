@@ -34,7 +34,7 @@ stops b a x e f = subst (λ (z : Push). Ended ≡ going_after b z) (sym f) (subs
 came_in : (i : Intake) (buffer : List ℕ) → CameInto buffer i → SoundCursor (came_as i) buffer
 came_in (Bytes n) buffer h = record { size = h.1.0; from = omega arith }
 came_in NoMore buffer h = record { size = omega arith; from = omega arith }
-came_in Failed buffer h = record { size = omega arith; from = omega arith }
+came_in (Failed reason) buffer h = record { size = omega arith; from = omega arith }
 
 pub came_sound : (i : Intake) (r : Cursor) (buffer : List ℕ) → r ≡ came_as i → CameInto buffer i → SoundCursor r buffer
 came_sound i r buffer e h = subst (λ (z : Cursor). SoundCursor z buffer) (sym e) (came_in i buffer h)
@@ -42,7 +42,7 @@ came_sound i r buffer e h = subst (λ (z : Cursor). SoundCursor z buffer) (sym e
 at_front : (i : Intake) → (came_as i).from ≡ 0
 at_front (Bytes n) = refl
 at_front NoMore = refl
-at_front Failed = refl
+at_front (Failed reason) = refl
 
 pub came_front : (i : Intake) (r : Cursor) → r ≡ came_as i → r.from ≡ 0
 came_front i r e = subst (λ (z : Cursor). z.from ≡ 0) (sym e) (at_front i)

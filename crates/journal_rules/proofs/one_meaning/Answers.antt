@@ -5,9 +5,9 @@ use Rattle.journal_rules.proofs.one_meaning.Goals as goal
 
 pub returns : goal.returns
 returns c = record {
-      written_reads = written_reads;
-      envelope_lies = envelope_lies;
-      read_allowed = read_allowed;
-      read_written = read_written;
-      one_record = one_record;
-    }
+  written_reads = written_reads;
+  envelope_lies = envelope_lies;
+  read_allowed = read_allowed;
+  read_written = read_written;
+  one_record = one_record;
+}

@@ -6,10 +6,10 @@ use Rattle.journal_rules.proofs.refusing.Goals as goal
 
 pub returns : goal.returns
 returns c = record {
-      writes_nothing = writes_nothing;
-      five = five;
-      twelve = twelve;
-      else_written = else_written;
-      unread_twelve = unread_twelve;
-      only_twelve = only_twelve;
-    }
+  writes_nothing = writes_nothing;
+  five = five;
+  twelve = twelve;
+  else_written = else_written;
+  unread_twelve = unread_twelve;
+  only_twelve = only_twelve;
+}

@@ -5,10 +5,10 @@ use Rattle.journal_rules.proofs.unbroken.Goals as goal
 
 pub returns : goal.returns
 returns c = record {
-      follows = follows;
-      once = once;
-      none_before = none_before;
-      none_after = none_after;
-      unchanged = unchanged;
-      writable = writable;
-    }
+  follows = follows;
+  once = once;
+  none_before = none_before;
+  none_after = none_after;
+  unchanged = unchanged;
+  writable = writable;
+}

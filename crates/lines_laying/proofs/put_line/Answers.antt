@@ -27,6 +27,9 @@ loop-j-preserved c =
 pub returns : goal.returns
 returns c =
     let a = c.args in
-    let all = le_antisymm c.loop-j.invariant.0 c.loop-j-test.false in  record { end = λ t e. omega (arith, line_size a.line t e); stored = λ t e.
+    let all = le_antisymm c.loop-j.invariant.0 c.loop-j-test.false in record {
+      end = λ t e. omega (arith, line_size a.line t e);
+      stored = λ t e.
           c.loop-j.invariant.2 ∙ ap (λ (k : ℕ). paste a.out.now a.at a.line.bytes k) all
-          ∙ put_line_text a.line t a.out.now a.at e (omega (arith, c.requires.fact_2, line_size a.line t e)) }
+          ∙ put_line_text a.line t a.out.now a.at e (omega (arith, c.requires.fact_2, line_size a.line t e));
+    }

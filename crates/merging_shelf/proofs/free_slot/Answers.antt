@@ -13,7 +13,7 @@ pub loop-k-init : goal.loop-k-init
 loop-k-init c = (omega arith, λ j l. absurd (omega arith))
 
 pub returns-then-not-taken-k : goal.returns-then-not-taken-k
-returns-then-not-taken-k c =  record { free = (omega arith, c.if-not-taken-k.true); first = first_free _ _ c.loop-k.invariant.1 c.if-not-taken-k.true (omega arith) }
+returns-then-not-taken-k c = record { free = (omega arith, c.if-not-taken-k.true); first = first_free _ _ c.loop-k.invariant.1 c.if-not-taken-k.true (omega arith) }
 
 pub loop-k-preserved : goal.loop-k-preserved
 loop-k-preserved c = (omega arith, below_more (λ (j : ℕ). get_or c.args.taken j false ≡ true) c.loop-k.k c.loop-k.invariant.1 c.if-not-taken-k.false)

@@ -12,7 +12,7 @@ use Rattle.recorder_frames.proofs.lay_frame.Goals as goal
 pub put_speech-requires : goal.put_speech-requires
 put_speech-requires c =
     let share = speech_share c.args.asked (sym c.is_speech.ensures ∙ c.if-is_speech.true) in
-     record { fact_1 = omega (arith, c.requires.fact_3); fact_2 = c.requires.fact_4 }
+    record { fact_1 = omega (arith, c.requires.fact_3); fact_2 = c.requires.fact_4 }
 
 pub returns-then-is_speech : goal.returns-then-is_speech
 returns-then-is_speech c =
@@ -21,7 +21,7 @@ returns-then-is_speech c =
 
 pub put_frame-requires : goal.put_frame-requires
 put_frame-requires c =
-    let a = c.args in  record { fact_1 = c.requires.fact_1; fact_2 = subst (λ (t : Tried). may_correct t.outcome t.corrected ≡ true) (sym c.tried_as-tried.ensures) (as_fair c.is_decoded.result a.table.now a.envelope.now); fact_3 = c.requires.fact_2; fact_4 = omega (arith, c.requires.fact_3, records_share a.asked); fact_5 = c.requires.fact_4 }
+    let a = c.args in record { fact_1 = c.requires.fact_1; fact_2 = subst (λ (t : Tried). may_correct t.outcome t.corrected ≡ true) (sym c.tried_as-tried.ensures) (as_fair c.is_decoded.result a.table.now a.envelope.now); fact_3 = c.requires.fact_2; fact_4 = omega (arith, c.requires.fact_3, records_share a.asked); fact_5 = c.requires.fact_4 }
 
 pub returns : goal.returns
 returns c =

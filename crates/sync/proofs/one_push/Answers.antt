@@ -20,20 +20,20 @@ returns-then-took-eq0 c =
 pub put-requires-2 : goal.put-requires-2
 put-requires-2 c =
     let l = lends c.args.s c.requires (search rules) (search rules) in
-     record { fact_1 = l.1.1.as_long; fact_2 = omega (arith, l.0.sound.first_in_lem, l.0.sound.restorable_few, l.1.0.1) }
+    record { fact_1 = l.1.1.as_long; fact_2 = omega (arith, l.0.sound.first_in_lem, l.0.sound.restorable_few, l.1.0.1) }
 
 pub appended-one-requires : goal.appended-one-requires
 appended-one-requires c =
     let v = c.requires in
     let t = taking _ _ _ _ c.answer_to-answer.ensures (λ z. c.if-took-eq0.false (c.made-took.ensures ∙ z)) in
-     record { fact_1 = v.steady; fact_2 = v.few.1; fact_3 = t.early }
+    record { fact_1 = v.steady; fact_2 = v.few.1; fact_3 = t.early }
 
 pub sends-d-requires : goal.sends-d-requires
 sends-d-requires c =
     let a = c.answer_to-answer.ensures in
     let h : takes c.answer_to-answer.result ≡ 0 → ⊥ = λ z. c.if-took-eq0.false (c.made-took.ensures ∙ z) in
     let b = brings_in c.args.s c.requires (search rules) (search rules) c.args.x _ _ a h _ _ c.put.ensures c.put-2.ensures _ c.appended-one.ensures in
-     record { fact_1 = b.rings.binary; fact_2 = b.steady; fact_3 = (taking _ _ _ _ a h).fits }
+    record { fact_1 = b.rings.binary; fact_2 = b.steady; fact_3 = (taking _ _ _ _ a h).fits }
 
 pub returns-then-busy : goal.returns-then-busy
 returns-then-busy c =

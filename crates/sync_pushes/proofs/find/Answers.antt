@@ -20,7 +20,7 @@ pub returns-then-found : goal.returns-then-found
 returns-then-found c =
     let l = c.loop-pos in
     let t = c.loop-pos-test.true in
-     record { by_index = λ n h. sym (l.invariant.1 n h ∙ first_here _ l.pos _ (sym (c.three_frames-found.ensures _ l.pos n refl (h l.pos t)) ∙ c.if-found.true) (omega arith)); few = omega arith }
+    record { by_index = λ n h. sym (l.invariant.1 n h ∙ first_here _ l.pos _ (sym (c.three_frames-found.ensures _ l.pos n refl (h l.pos t)) ∙ c.if-found.true) (omega arith)); few = omega arith }
 
 pub loop-pos-preserved : goal.loop-pos-preserved
 loop-pos-preserved c =
@@ -31,7 +31,7 @@ loop-pos-preserved c =
 pub returns : goal.returns
 returns c =
     let l = c.loop-pos in
-     record { by_index = λ n h. sym (l.invariant.1 n h ∙ first_none _ l.pos _ c.loop-pos-test.false); few = omega arith }
+    record { by_index = λ n h. sym (l.invariant.1 n h ∙ first_none _ l.pos _ c.loop-pos-test.false); few = omega arith }
 
 pub overflow_add-pos : goal.overflow_add-pos
 overflow_add-pos c = omega arith

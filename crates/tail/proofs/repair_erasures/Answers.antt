@@ -5,20 +5,20 @@ use Rattle.tail_rules.proofs.RepairCalled.{answer_size, leaves_size, answer_eras
 use Rattle.tail.proofs.repair_erasures.Goals as goal
 
 pub returns-then-tail-ne14 : goal.returns-then-tail-ne14
-returns-then-tail-ne14 c = let h = c.if-tail-ne14.true in  record { value = sym (answer_size _ _ h); leaves = sym (leaves_size _ _ h) }
+returns-then-tail-ne14 c = let h = c.if-tail-ne14.true in record { value = sym (answer_size _ _ h); leaves = sym (leaves_size _ _ h) }
 
 pub returns-then-not-may_erase : goal.returns-then-not-may_erase
 returns-then-not-may_erase c =
     let h = c.if-tail-ne14.false in
     let no-erase = sym c.may_erase.ensures ∙ c.if-not-may_erase.true in
-     record { value = sym (answer_erasure _ _ h no-erase); leaves = sym (leaves_erasure _ _ h no-erase) }
+    record { value = sym (answer_erasure _ _ h no-erase); leaves = sym (leaves_erasure _ _ h no-erase) }
 
 pub repair_lent-requires : goal.repair_lent-requires
 repair_lent-requires c =
-     record { fact_1 = c.if-tail-ne14.false; fact_2 = sym c.may_erase.ensures ∙ c.if-not-may_erase.false }
+    record { fact_1 = c.if-tail-ne14.false; fact_2 = sym c.may_erase.ensures ∙ c.if-not-may_erase.false }
 
 pub returns : goal.returns
 returns c =
     let h = c.if-tail-ne14.false in
     let erase = sym c.may_erase.ensures ∙ c.if-not-may_erase.false in
-     record { value = c.repair_lent.ensures.value ∙ sym (answer_repair _ _ h erase); leaves = c.repair_lent.ensures.leaves ∙ sym (leaves_repair _ _ h erase) }
+    record { value = c.repair_lent.ensures.value ∙ sym (answer_repair _ _ h erase); leaves = c.repair_lent.ensures.leaves ∙ sym (leaves_repair _ _ h erase) }

@@ -24,10 +24,10 @@ returns-then-among_from c = let es = c.args.places.now in
 
 pub loop-i-preserved : goal.loop-i-preserved
 loop-i-preserved c = let es = c.args.places.now in (
-      c.loop-i.invariant.0,
-      search rules,
-      sym (once_later es c.loop-i.i c.wide-e.result (search rules) c.wide-e.ensures.0 c.if-e-gt13.false (sym c.among_from.ensures ∙ c.if-among_from.false)) ∙ c.loop-i.invariant.2,
-    )
+  c.loop-i.invariant.0,
+  search rules,
+  sym (once_later es c.loop-i.i c.wide-e.result (search rules) c.wide-e.ensures.0 c.if-e-gt13.false (sym c.among_from.ensures ∙ c.if-among_from.false)) ∙ c.loop-i.invariant.2,
+)
 
 pub returns : goal.returns
 returns c = let l = c.loop-i in

@@ -12,18 +12,18 @@ use Rattle.tail_lent.proofs.repair_lent.Goals as goal
 pub repair_by-found-requires : goal.repair_by-found-requires
 repair_by-found-requires c =
     let may = c.requires.fact_2 in
-     record { fact_1 = c.powers-powers.ensures; fact_2 = c.logs-logs.ensures; fact_3 = c.copied-t.ensures.1; fact_4 = few_of _ may; fact_5 = inside_of _ may }
+    record { fact_1 = c.powers-powers.ensures; fact_2 = c.logs-logs.ensures; fact_3 = c.copied-t.ensures.1; fact_4 = few_of _ may; fact_5 = inside_of _ may }
 
 pub returns-in-Repaired : goal.returns-in-Repaired
 returns-in-Repaired c =
     let es = c.args.places.now in
     let t = c.args.tail.now in
     let same = c.copied-t.ensures.0 in
-    let answer = sym c.in-Repaired.is ∙ c.repair_by-found.ensures.0 ∙ ap (λ (x : List ℕ). answer_of (repair_of es x)) same in  record { value = answer; leaves = c.put_back.ensures ∙ c.repair_by-found.ensures.1 ∙ ap (λ (x : List ℕ). tail_in (repair_of es x)) same ∙ written_found t (repair_of es t) _ answer }
+    let answer = sym c.in-Repaired.is ∙ c.repair_by-found.ensures.0 ∙ ap (λ (x : List ℕ). answer_of (repair_of es x)) same in record { value = answer; leaves = c.put_back.ensures ∙ c.repair_by-found.ensures.1 ∙ ap (λ (x : List ℕ). tail_in (repair_of es x)) same ∙ written_found t (repair_of es t) _ answer }
 
 pub returns-in-Refused : goal.returns-in-Refused
 returns-in-Refused c =
     let es = c.args.places.now in
     let t = c.args.tail.now in
     let answer = sym c.in-Refused.is ∙ c.repair_by-found.ensures.0 ∙ ap (λ (x : List ℕ). answer_of (repair_of es x)) c.copied-t.ensures.0 in
-     record { value = answer; leaves = sym (written_refused t (repair_of es t) _ answer) }
+    record { value = answer; leaves = sym (written_refused t (repair_of es t) _ answer) }

@@ -12,7 +12,7 @@ pub loop-k-init : goal.loop-k-init
 loop-k-init c = (omega arith, omega (arith, c.well_formed.1.1.0), c.generator-g.ensures, registers_none c.args.d)
 
 pub register-next-requires : goal.register-next-requires
-register-next-requires c =  record { fact_1 = c.requires.fact_1; fact_2 = c.requires.fact_2; fact_3 = c.generator-g.ensures }
+register-next-requires c = record { fact_1 = c.requires.fact_1; fact_2 = c.requires.fact_2; fact_3 = c.generator-g.ensures }
 
 pub loop-k-preserved : goal.loop-k-preserved
 loop-k-preserved c =

@@ -23,7 +23,7 @@ returns-then-not-ok c =
 
 pub correct-c-requires : goal.correct-c-requires
 correct-c-requires c =
-     record { fact_1 = c.requires.fact_1; fact_2 = c.requires.fact_2; fact_3 = c.requires.fact_3; fact_4 = c.syndromes_of-s.ensures; fact_5 = c.locate-found.ensures.few c.if-not-ok.false }
+    record { fact_1 = c.requires.fact_1; fact_2 = c.requires.fact_2; fact_3 = c.requires.fact_3; fact_4 = c.syndromes_of-s.ensures; fact_5 = c.locate-found.ensures.few c.if-not-ok.false }
 
 pub returns-then-not-all_zero : goal.returns-then-not-all_zero
 returns-then-not-all_zero c =

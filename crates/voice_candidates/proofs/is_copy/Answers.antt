@@ -14,8 +14,7 @@ returns-then-bytes_apart-eq0 c =
 
 pub loop-i-preserved : goal.loop-i-preserved
 loop-i-preserved c =
-    let l = c.loop-i in
-    (
+    let l = c.loop-i in (
       omega arith,
       copy_below c.args.words.now c.args.m.now l.i c.loop-i-test.true
           c.bytes_apart.result c.bytes_apart.ensures c.if-bytes_apart-eq0.false ∙ l.invariant.1,

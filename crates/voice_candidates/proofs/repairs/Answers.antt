@@ -21,12 +21,12 @@ mend-succeeded-requires c =
     let p = c.args.places.now in
     let i = 2 * c.loop-k.k in
     let e : length (take i p) ≡ i = length-take-le i p (omega (arith, c.requires.places_len.0)) in
-     record { fact_1 = c.requires.powers_1; fact_2 = c.requires.powers_2; fact_3 = omega (arith, e); fact_4 = below_take i p c.requires.places_len.1 }
+    record { fact_1 = c.requires.powers_1; fact_2 = c.requires.powers_2; fact_3 = omega (arith, e); fact_4 = below_take i p c.requires.places_len.1 }
 
 pub try_candidate-s-requires : goal.try_candidate-s-requires
 try_candidate-s-requires c =
     let q = c.requires in
-     record { fact_1 = q.powers_1; fact_2 = q.powers_2; fact_3 = q.powers_3; fact_4 = q.powers_4; fact_5 = (q.powers_5, search rules) }
+    record { fact_1 = q.powers_1; fact_2 = q.powers_2; fact_3 = q.powers_3; fact_4 = q.powers_4; fact_5 = (q.powers_5, search rules) }
 
 pub returns-then-s : goal.returns-then-s
 returns-then-s c =

@@ -24,7 +24,7 @@ returns-then-not-admitted c =
     c.refused-then-not-admitted.ensures ∙ other_table t e (decoded_word t) c.if-envelope-ne48.false (sym c.admitted.ensures ∙ c.if-not-admitted.true)
 
 pub hard-requires : goal.hard-requires
-hard-requires c =  record { fact_1 = c.powers-powers.ensures; fact_2 = c.logs-logs.ensures; fact_3 = admits_admitted _ (sym c.admitted.ensures ∙ c.if-not-admitted.false); fact_4 = c.protected-received.ensures }
+hard-requires c = record { fact_1 = c.powers-powers.ensures; fact_2 = c.logs-logs.ensures; fact_3 = admits_admitted _ (sym c.admitted.ensures ∙ c.if-not-admitted.false); fact_4 = c.protected-received.ensures }
 
 pub returns : goal.returns
 unfolding decode_answer

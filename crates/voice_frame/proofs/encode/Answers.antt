@@ -14,7 +14,7 @@ returns-then-payload-ne20 c =
     let p = c.args.payload.now in
     let e = c.args.envelope.now in
     let a = c.args.alternate in
-    let s = short-payload t p e a c.if-payload-ne20.true in  record { value = size-answer t p e a s; leaves = size-leaves t p e a s }
+    let s = short-payload t p e a c.if-payload-ne20.true in record { value = size-answer t p e a s; leaves = size-leaves t p e a s }
 
 pub returns-then-envelope-ne48 : goal.returns-then-envelope-ne48
 returns-then-envelope-ne48 c =
@@ -22,7 +22,7 @@ returns-then-envelope-ne48 c =
     let p = c.args.payload.now in
     let e = c.args.envelope.now in
     let a = c.args.alternate in
-    let s = short-envelope t p e a c.if-payload-ne20.false c.if-envelope-ne48.true in  record { value = size-answer t p e a s; leaves = size-leaves t p e a s }
+    let s = short-envelope t p e a c.if-payload-ne20.false c.if-envelope-ne48.true in record { value = size-answer t p e a s; leaves = size-leaves t p e a s }
 
 pub returns-then-not-admitted : goal.returns-then-not-admitted
 returns-then-not-admitted c =
@@ -30,10 +30,10 @@ returns-then-not-admitted c =
     let p = c.args.payload.now in
     let e = c.args.envelope.now in
     let a = c.args.alternate in
-    let s = sym c.admitted.ensures ∙ c.if-not-admitted.true in  record { value = table-answer t p e a c.if-payload-ne20.false c.if-envelope-ne48.false s; leaves = table-leaves t p e a c.if-payload-ne20.false c.if-envelope-ne48.false s }
+    let s = sym c.admitted.ensures ∙ c.if-not-admitted.true in record { value = table-answer t p e a c.if-payload-ne20.false c.if-envelope-ne48.false s; leaves = table-leaves t p e a c.if-payload-ne20.false c.if-envelope-ne48.false s }
 
 pub encode_word-word-requires : goal.encode_word-word-requires
-encode_word-word-requires c =  record { fact_1 = admits_admitted _ (sym c.admitted.ensures ∙ c.if-not-admitted.false); fact_2 = c.if-payload-ne20.false }
+encode_word-word-requires c = record { fact_1 = admits_admitted _ (sym c.admitted.ensures ∙ c.if-not-admitted.false); fact_2 = c.if-payload-ne20.false }
 
 pub returns : goal.returns
 returns c =
@@ -45,4 +45,4 @@ returns c =
     let w = c.encode_word-word.result in
     let ew : w ≡ encoded_word t p (cond a 1 0) = c.encode_word-word.ensures ∙ ap (encoded_word t p) c.flag_of.ensures in
     let l : length w ≡ 42 = search rules in
-     record { value = c.scramble.ensures.value ∙ made-answer t p e a c.if-payload-ne20.false c.if-envelope-ne48.false s w ew l; leaves = c.scramble.ensures.leaves ∙ made-leaves t p e a c.if-payload-ne20.false c.if-envelope-ne48.false s w ew l }
+    record { value = c.scramble.ensures.value ∙ made-answer t p e a c.if-payload-ne20.false c.if-envelope-ne48.false s w ew l; leaves = c.scramble.ensures.leaves ∙ made-leaves t p e a c.if-payload-ne20.false c.if-envelope-ne48.false s w ew l }

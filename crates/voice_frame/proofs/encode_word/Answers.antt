@@ -10,10 +10,10 @@ use Rattle.voice_rules.specs.Encoded.{encoded_word}
 use Rattle.voice_frame.proofs.encode_word.Goals as goal
 
 pub convolution-code-requires : goal.convolution-code-requires
-convolution-code-requires c =  record { admitted = c.requires.fact_1; input = rw c.input_of-x.ensures (input_input _) }
+convolution-code-requires c = record { admitted = c.requires.fact_1; input = rw c.input_of-x.ensures (input_input _) }
 
 pub together-requires : goal.together-requires
-together-requires c =  record { fact_1 = c.powers-powers.ensures; fact_2 = c.logs-logs.ensures; fact_3 = rw c.convolution-code.ensures (convolved_bits _ _) }
+together-requires c = record { fact_1 = c.powers-powers.ensures; fact_2 = c.logs-logs.ensures; fact_3 = rw c.convolution-code.ensures (convolved_bits _ _) }
 
 pub returns : goal.returns
 unfolding encoded_word joined

@@ -13,7 +13,7 @@ use Rattle.voice_hard.proofs.Stages.{in_stages}
 use Rattle.voice_hard.proofs.hard.Goals as goal
 
 pub plain-a-requires : goal.plain-a-requires
-plain-a-requires c =  record { fact_1 = c.requires.fact_1; fact_2 = c.requires.fact_2; fact_3 = c.requires.fact_3; fact_4 = rw c.inverse-x.ensures (inverted_input _ _ (rw c.requires.fact_4 (coded_bits _))); fact_5 = (c.requires.fact_4, c.mode_valid-valid.ensures) }
+plain-a-requires c = record { fact_1 = c.requires.fact_1; fact_2 = c.requires.fact_2; fact_3 = c.requires.fact_3; fact_4 = rw c.inverse-x.ensures (inverted_input _ _ (rw c.requires.fact_4 (coded_bits _))); fact_5 = (c.requires.fact_4, c.mode_valid-valid.ensures) }
 
 pub returns-then-a : goal.returns-then-a
 returns-then-a c =
@@ -30,7 +30,7 @@ returns-then-b c =
     then_second _ _ c.plain-a.result c.stage_b-b.result ea c.if-a.false (then_first _ _ c.stage_b-b.result c.stage_b-b.ensures c.if-b.true) ∙ sym (in_stages table w)
 
 pub searching-requires : goal.searching-requires
-searching-requires c =  record { fact_1 = c.requires.fact_1; fact_2 = c.requires.fact_2; fact_3 = c.requires.fact_3; fact_4 = (c.inverse-x.ensures ∙ ap (inverted c.args.table.now) c.requires.fact_4, rw c.inverse-x.ensures (inverted_input _ _ (rw c.requires.fact_4 (coded_bits _)))); fact_5 = (c.requires.fact_4, c.mode_valid-valid.ensures) }
+searching-requires c = record { fact_1 = c.requires.fact_1; fact_2 = c.requires.fact_2; fact_3 = c.requires.fact_3; fact_4 = (c.inverse-x.ensures ∙ ap (inverted c.args.table.now) c.requires.fact_4, rw c.inverse-x.ensures (inverted_input _ _ (rw c.requires.fact_4 (coded_bits _)))); fact_5 = (c.requires.fact_4, c.mode_valid-valid.ensures) }
 
 pub returns : goal.returns
 returns c =

@@ -15,7 +15,7 @@ returns-then-mode_apart-gt-MOST_MODE_BITS c =
     c.silent.ensures ∙ all_refused table w c.mode_apart.result c.mode_apart.ensures c.if-mode_apart-gt-MOST_MODE_BITS.true
 
 pub both_flags-d-requires : goal.both_flags-d-requires
-both_flags-d-requires c =  record { fact_1 = c.requires.fact_1; fact_2 = c.requires.fact_2; fact_3 = c.requires.fact_3; fact_4 = c.requires.fact_4.1; fact_5 = c.requires.fact_5 }
+both_flags-d-requires c = record { fact_1 = c.requires.fact_1; fact_2 = c.requires.fact_2; fact_3 = c.requires.fact_3; fact_4 = c.requires.fact_4.1; fact_5 = c.requires.fact_5 }
 
 pub returns-then-d : goal.returns-then-d
 returns-then-d c =
@@ -24,11 +24,11 @@ returns-then-d c =
     then_first _ _ c.both_flags-d.result (c.both_flags-d.ensures ∙ ap (said_joint table w) c.requires.fact_4.0) c.if-d.true
 
 pub search-found-requires : goal.search-found-requires
-search-found-requires c =  record { admitted = c.requires.fact_3; bits = rw c.requires.fact_5 (coded_bits _) }
+search-found-requires c = record { admitted = c.requires.fact_3; bits = rw c.requires.fact_5 (coded_bits _) }
 
 pub both_flags-requires : goal.both_flags-requires
 unfolding searched
-both_flags-requires c =  record { fact_1 = c.requires.fact_1; fact_2 = c.requires.fact_2; fact_3 = c.requires.fact_3; fact_4 = rw c.search-found.ensures (found_input _ _ _); fact_5 = c.requires.fact_5 }
+both_flags-requires c = record { fact_1 = c.requires.fact_1; fact_2 = c.requires.fact_2; fact_3 = c.requires.fact_3; fact_4 = rw c.search-found.ensures (found_input _ _ _); fact_5 = c.requires.fact_5 }
 
 pub returns : goal.returns
 returns c =

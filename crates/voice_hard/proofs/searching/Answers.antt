@@ -14,7 +14,7 @@ use Rattle.voice_speech.specs.declared.Speech.{Speech}
 use Rattle.voice_hard.proofs.searching.Goals as goal
 
 pub joint_first-requires : goal.joint_first-requires
-joint_first-requires c =  record { fact_1 = c.requires.fact_1; fact_2 = c.requires.fact_2; fact_3 = c.requires.fact_3; fact_4 = c.requires.fact_4; fact_5 = c.requires.fact_5.0 }
+joint_first-requires c = record { fact_1 = c.requires.fact_1; fact_2 = c.requires.fact_2; fact_3 = c.requires.fact_3; fact_4 = c.requires.fact_4; fact_5 = c.requires.fact_5.0 }
 
 pub returns-then-not-valid : goal.returns-then-not-valid
 returns-then-not-valid c =
@@ -23,11 +23,11 @@ returns-then-not-valid c =
     c.joint_first.ensures ∙ ap (λ (s : Speech). either s (said_d table w)) (not_valid table w (searched table (coded w)) StageC (sym c.requires.fact_5.1 ∙ c.if-not-valid.true))
 
 pub search-found-requires : goal.search-found-requires
-search-found-requires c =  record { admitted = c.requires.fact_3; bits = rw c.requires.fact_5.0 (coded_bits _) }
+search-found-requires c = record { admitted = c.requires.fact_3; bits = rw c.requires.fact_5.0 (coded_bits _) }
 
 pub plain-c-requires : goal.plain-c-requires
 unfolding searched
-plain-c-requires c =  record { fact_1 = c.requires.fact_1; fact_2 = c.requires.fact_2; fact_3 = c.requires.fact_3; fact_4 = rw c.search-found.ensures (found_input _ _ _); fact_5 = (c.requires.fact_5.0, sym c.if-not-valid.false ∙ c.requires.fact_5.1) }
+plain-c-requires c = record { fact_1 = c.requires.fact_1; fact_2 = c.requires.fact_2; fact_3 = c.requires.fact_3; fact_4 = rw c.search-found.ensures (found_input _ _ _); fact_5 = (c.requires.fact_5.0, sym c.if-not-valid.false ∙ c.requires.fact_5.1) }
 
 pub returns-then-c : goal.returns-then-c
 returns-then-c c =
@@ -36,7 +36,7 @@ returns-then-c c =
     then_first _ _ c.plain-c.result (c.plain-c.ensures ∙ ap (λ (x : List ℕ). said (plain_trial StageC table w x)) (c.search-found.ensures ∙ ap (searched table) c.requires.fact_5.0)) c.if-c.true
 
 pub both_flags-d-requires : goal.both_flags-d-requires
-both_flags-d-requires c =  record { fact_1 = c.requires.fact_1; fact_2 = c.requires.fact_2; fact_3 = c.requires.fact_3; fact_4 = c.requires.fact_4.1; fact_5 = c.requires.fact_5.0 }
+both_flags-d-requires c = record { fact_1 = c.requires.fact_1; fact_2 = c.requires.fact_2; fact_3 = c.requires.fact_3; fact_4 = c.requires.fact_4.1; fact_5 = c.requires.fact_5.0 }
 
 pub returns-then-d : goal.returns-then-d
 returns-then-d c =
@@ -47,7 +47,7 @@ returns-then-d c =
 
 pub both_flags-requires : goal.both_flags-requires
 unfolding searched
-both_flags-requires c =  record { fact_1 = c.requires.fact_1; fact_2 = c.requires.fact_2; fact_3 = c.requires.fact_3; fact_4 = rw c.search-found.ensures (found_input _ _ _); fact_5 = c.requires.fact_5.0 }
+both_flags-requires c = record { fact_1 = c.requires.fact_1; fact_2 = c.requires.fact_2; fact_3 = c.requires.fact_3; fact_4 = rw c.search-found.ensures (found_input _ _ _); fact_5 = c.requires.fact_5.0 }
 
 pub returns : goal.returns
 returns c =

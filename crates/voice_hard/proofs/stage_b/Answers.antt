@@ -22,7 +22,7 @@ none_below : Below 14 []
 none_below = below_none 14 (omega arith)
 
 pub repair_by-given-requires : goal.repair_by-given-requires
-repair_by-given-requires c =  record { fact_1 = c.requires.fact_1; fact_2 = c.requires.fact_2; fact_3 = c.tail_bytes.ensures.1; fact_4 = search rules; fact_5 = none_below }
+repair_by-given-requires c = record { fact_1 = c.requires.fact_1; fact_2 = c.requires.fact_2; fact_3 = c.tail_bytes.ensures.1; fact_4 = search rules; fact_5 = none_below }
 
 pub returns : goal.returns
 unfolding mended

@@ -6,4 +6,4 @@ unfolding searched
 returns c = c.search_by.ensures
 
 pub search_by-requires : goal.search_by-requires
-search_by-requires c =  record { admitted = c.requires.admitted; bits = c.requires.bits }
+search_by-requires c = record { admitted = c.requires.admitted; bits = c.requires.bits }

@@ -19,12 +19,12 @@ unfolding best
 loop-t-init c = (omega arith, refl, start_le, start_at, λ k h. absurd (omega arith))
 
 pub observe-requires : goal.observe-requires
-observe-requires c =  record { t_bound = omega arith; admitted = c.requires.admitted; bits = c.requires.bits }
+observe-requires c = record { t_bound = omega arith; admitted = c.requires.admitted; bits = c.requires.bits }
 
 pub step-stepped-requires : goal.step-stepped-requires
 step-stepped-requires c =
     let v = c.loop-t.invariant in
-     record { weighed = c.observe.ensures.1; by_index = λ s h. omega (arith, v.2 s h); pairs_value = c.parities-pairs.ensures }
+    record { weighed = c.observe.ensures.1; by_index = λ s h. omega (arith, v.2 s h); pairs_value = c.parities-pairs.ensures }
 
 pub pack-requires : goal.pack-requires
 pack-requires c = λ s h. rw (c.step-stepped.ensures.chosen s h) (survivor_small _ _ s)

@@ -15,7 +15,7 @@ use borrow.Author.Rules.{rules}
 use Rattle.voice_trials.proofs.joint.Goals as goal
 
 pub together-c-requires : goal.together-c-requires
-together-c-requires c =  record { fact_1 = search rules; fact_2 = search rules; fact_3 = rw c.convolution-code.ensures (convolved_bits _ _) }
+together-c-requires c = record { fact_1 = search rules; fact_2 = search rules; fact_3 = rw c.convolution-code.ensures (convolved_bits _ _) }
 
 pub returns-then-not-joint_valid : goal.returns-then-not-joint_valid
 unfolding joint_trial hard_trial joined

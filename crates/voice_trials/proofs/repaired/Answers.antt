@@ -34,7 +34,7 @@ returns-then-not-repair_valid c =
     (tried_silent StageB table w m (searched table (coded m)) 8 (repair_tests ok y m) [] (n (searched table (coded m))) off)
 
 pub checked-s-requires : goal.checked-s-requires
-checked-s-requires c =  record { fact_1 = c.requires.fact_1; fact_2 = c.requires.fact_2; fact_3 = c.requires.fact_3; fact_4 = rw c.inverse-x.ensures (inverted_input _ _ (rw c.protected-outer.ensures (coded_bits _))); fact_5 = c.bits_apart-extra.ensures.1 }
+checked-s-requires c = record { fact_1 = c.requires.fact_1; fact_2 = c.requires.fact_2; fact_3 = c.requires.fact_3; fact_4 = rw c.inverse-x.ensures (inverted_input _ _ (rw c.protected-outer.ensures (coded_bits _))); fact_5 = c.bits_apart-extra.ensures.1 }
 
 pub returns-then-s : goal.returns-then-s
 unfolding repair_trial hard_trial corrected_bits
@@ -54,11 +54,11 @@ returns-then-s c =
     then_first _ _ c.checked-s.result e1 c.if-s.true
 
 pub search-y-requires : goal.search-y-requires
-search-y-requires c =  record { admitted = c.requires.fact_3; bits = rw c.protected-outer.ensures (coded_bits _) }
+search-y-requires c = record { admitted = c.requires.fact_3; bits = rw c.protected-outer.ensures (coded_bits _) }
 
 pub checked-requires : goal.checked-requires
 unfolding searched
-checked-requires c =  record { fact_1 = c.requires.fact_1; fact_2 = c.requires.fact_2; fact_3 = c.requires.fact_3; fact_4 = rw c.search-y.ensures (found_input _ _ _); fact_5 = c.bits_apart-extra.ensures.1 }
+checked-requires c = record { fact_1 = c.requires.fact_1; fact_2 = c.requires.fact_2; fact_3 = c.requires.fact_3; fact_4 = rw c.search-y.ensures (found_input _ _ _); fact_5 = c.bits_apart-extra.ensures.1 }
 
 pub returns : goal.returns
 unfolding repair_trial hard_trial corrected_bits

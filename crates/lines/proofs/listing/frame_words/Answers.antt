@@ -12,4 +12,4 @@ pub returns : goal.returns
 returns c =
     let a = c.args in
     let said = c.with_number.ensures.text _ (c.with_number-l3.ensures.text _ (c.with_number-l2.ensures.text _ (c.with_word-l1.ensures.text _ c.empty-l0.ensures.text))) in
-     record { size = omega arith; text = said ∙ ap (λ (m : ℕ). line_of ((102 ∷ 114 ∷ 97 ∷ 109 ∷ 101 ∷ []) ++ spaced a.offset ++ spaced m ++ spaced a.errors)) c.bit_number.ensures }
+    record { size = omega arith; text = said ∙ ap (λ (m : ℕ). line_of ((102 ∷ 114 ∷ 97 ∷ 109 ∷ 101 ∷ []) ++ spaced a.offset ++ spaced m ++ spaced a.errors)) c.bit_number.ensures }

@@ -9,7 +9,7 @@ use Rattle.sync_frames.proofs.frames.frame.Goals as goal
 
 pub frame_at-requires : goal.frame_at-requires
 frame_at-requires c =
-     record { fact_1 = c.requires.fact_1; fact_2 = whole c.args.bits.now c.args.reliabilities.now c.args.c c.args.placed c.requires.fact_2 c.requires.fact_3; fact_3 = c.requires.fact_4 }
+    record { fact_1 = c.requires.fact_1; fact_2 = whole c.args.bits.now c.args.reliabilities.now c.args.c c.args.placed c.requires.fact_2 c.requires.fact_3; fact_3 = c.requires.fact_4 }
 
 pub returns-then-placed : goal.returns-then-placed
 returns-then-placed c =
@@ -18,13 +18,13 @@ returns-then-placed c =
 pub front-d-requires : goal.front-d-requires
 front-d-requires c =
     let r = c.requires.fact_2 in
-     record { fact_1 = c.requires.fact_1; fact_2 = r.sound; fact_3 = r.more c.if-placed.false; fact_4 = r.slips; fact_5 = r.low }
+    record { fact_1 = c.requires.fact_1; fact_2 = r.sound; fact_3 = r.more c.if-placed.false; fact_4 = r.slips; fact_5 = r.low }
 
 pub moves_of-moves-requires : goal.moves_of-moves-requires
 moves_of-moves-requires c =
     let m1 = c.segment_at-p.ensures in
     let m2 = c.segment_at-q.ensures in
-     record { fact_1 = (omega (arith, m1.near.1), omega (arith, m1.near.0)); fact_2 = (omega (arith, m1.near.1, m2.near.1), omega (arith, m1.near.0, m2.near.0)) }
+    record { fact_1 = (omega (arith, m1.near.1), omega (arith, m1.near.0)); fact_2 = (omega (arith, m1.near.1, m2.near.1), omega (arith, m1.near.0, m2.near.0)) }
 
 pub frame_at-requires-2 : goal.frame_at-requires-2
 frame_at-requires-2 c =
@@ -32,8 +32,12 @@ frame_at-requires-2 c =
     let m1 = c.segment_at-p.ensures in
     let m2 = c.segment_at-q.ensures in
     let m1n : (c.segment_at-p.result ≤ 130) × (126 ≤ c.segment_at-p.result) = (omega (arith, m1.near.0), omega (arith, m1.near.1)) in
-    let m2n : (c.segment_at-q.result ≤ c.segment_at-p.result + 130) × (c.segment_at-p.result + 126 ≤ c.segment_at-q.result) = (omega (arith, m2.near.0), omega (arith, m2.near.1)) in  record { fact_1 = c.requires.fact_1; fact_2 = can c.args.bits.now c.args.reliabilities.now c.args.c c.args.placed c.requires.fact_2 c.requires.fact_3 c.if-placed.false _ f _ _
-            (m1.by_index _ (omega (arith, f.long))) m1n (m2.by_index _ (omega (arith, f.long, m1n.0))) m2n _ c.shifted-e.ensures; fact_3 = c.requires.fact_4 }
+    let m2n : (c.segment_at-q.result ≤ c.segment_at-p.result + 130) × (c.segment_at-p.result + 126 ≤ c.segment_at-q.result) = (omega (arith, m2.near.0), omega (arith, m2.near.1)) in record {
+      fact_1 = c.requires.fact_1;
+      fact_2 = can c.args.bits.now c.args.reliabilities.now c.args.c c.args.placed c.requires.fact_2 c.requires.fact_3 c.if-placed.false _ f _ _
+          (m1.by_index _ (omega (arith, f.long))) m1n (m2.by_index _ (omega (arith, f.long, m1n.0))) m2n _ c.shifted-e.ensures;
+      fact_3 = c.requires.fact_4;
+    }
 
 pub returns : goal.returns
 returns c =

@@ -13,12 +13,12 @@ overflow_add-to c = record { fits = omega (arith, c.requires.fact_3, c.well_form
 pub lay_soft-requires : goal.lay_soft-requires
 lay_soft-requires c =
     let sn = c.requires.fact_2 in
-     record { fact_1 = omega (arith, c.requires.fact_3, c.lay_bits.auto.room); fact_2 = omega (arith, sn.sound.first_in_lem, sn.sound.restorable_few); fact_3 = omega (arith, sn.near.1); fact_4 = omega (arith, sn.far.1) }
+    record { fact_1 = omega (arith, c.requires.fact_3, c.lay_bits.auto.room); fact_2 = omega (arith, sn.sound.first_in_lem, sn.sound.restorable_few); fact_3 = omega (arith, sn.near.1); fact_4 = omega (arith, sn.far.1) }
 
 pub sent-numbers-requires : goal.sent-numbers-requires
 sent-numbers-requires c =
     let s = c.requires.fact_2 in
-     record { fact_1 = s.sound; fact_2 = s.far.0; fact_3 = s.fit.1; fact_4 = s.failures; fact_5 = s.locked }
+    record { fact_1 = s.sound; fact_2 = s.far.0; fact_3 = s.fit.1; fact_4 = s.failures; fact_5 = s.locked }
 
 pub overflow_add-head : goal.overflow_add-head
 overflow_add-head c = record { fits = omega (arith, c.marker-x.ensures.few, c.marker-y.ensures.few) }

@@ -11,22 +11,22 @@ pub frame-f-requires : goal.frame-f-requires
 frame-f-requires c =
     let l = c.look-a.ensures in
     let t = c.if-a.true in
-     record { fact_1 = c.requires.fact_1; fact_2 = l.can t; fact_3 = l.seen t; fact_4 = omega (arith, c.requires.fact_3) }
+    record { fact_1 = c.requires.fact_1; fact_2 = l.can t; fact_3 = l.seen t; fact_4 = omega (arith, c.requires.fact_3) }
 
 pub frame-g-requires : goal.frame-g-requires
 frame-g-requires c =
     let l = c.look-b.ensures in
     let t = c.if-b.true in
-     record { fact_1 = c.requires.fact_1; fact_2 = l.can t; fact_3 = l.seen t; fact_4 = subst (λ (n : ℕ). 864 ≤ n) (sym c.frame-f.auto.room) (omega (arith, c.requires.fact_3)) }
+    record { fact_1 = c.requires.fact_1; fact_2 = l.can t; fact_3 = l.seen t; fact_4 = subst (λ (n : ℕ). 864 ≤ n) (sym c.frame-f.auto.room) (omega (arith, c.requires.fact_3)) }
 
 pub look-d-requires : goal.look-d-requires
-look-d-requires c =  record { fact_1 = c.requires.fact_1; fact_2 = steady_of _ _ _ _ _ _ _ _ c.frame-g.ensures }
+look-d-requires c = record { fact_1 = c.requires.fact_1; fact_2 = steady_of _ _ _ _ _ _ _ _ c.frame-g.ensures }
 
 pub frame-h-requires : goal.frame-h-requires
 frame-h-requires c =
     let l = c.look-d.ensures in
     let t = c.if-d.true in
-     record { fact_1 = c.requires.fact_1; fact_2 = l.can t; fact_3 = l.seen t; fact_4 = subst (λ (n : ℕ). 1296 ≤ n) (sym (c.frame-g.auto.room ∙ c.frame-f.auto.room)) c.requires.fact_3 }
+    record { fact_1 = c.requires.fact_1; fact_2 = l.can t; fact_3 = l.seen t; fact_4 = subst (λ (n : ℕ). 1296 ≤ n) (sym (c.frame-g.auto.room ∙ c.frame-f.auto.room)) c.requires.fact_3 }
 
 pub shape_of-room-then-d : goal.shape_of-room-then-d
 shape_of-room-then-d c = c.frame-h.auto.room ∙ c.frame-g.auto.room ∙ c.frame-f.auto.room

@@ -8,7 +8,7 @@ use Rattle.bits.proofs.Tests.{cond_yes, cond_no}
 use Rattle.sync_numbers.proofs.figures.beyond.Goals as goal
 
 pub returns-then-b-a : goal.returns-then-b-a
-returns-then-b-a c =  record { value = cond_yes _ true _ _ (sym (lt-ltb _ _ c.if-b-a.true)) refl; few = omega arith }
+returns-then-b-a c = record { value = cond_yes _ true _ _ (sym (lt-ltb _ _ c.if-b-a.true)) refl; few = omega arith }
 
 pub returns : goal.returns
-returns c =  record { value = cond_no _ false _ _ (sym (le-ltb _ _ c.if-b-a.false)) refl; few = omega arith }
+returns c = record { value = cond_no _ false _ _ (sym (le-ltb _ _ c.if-b-a.false)) refl; few = omega arith }

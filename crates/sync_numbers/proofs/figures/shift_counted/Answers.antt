@@ -10,4 +10,4 @@ use Rattle.sync_numbers.proofs.figures.shift_counted.Goals as goal
 pub returns : goal.returns
 returns c =
     let f = c.args.figures in
-    let e = c.slips_counted.ensures in  record { value = e ∙ ap₂ (λ (a b : ℕ). slips_counted a b f) c.beyond-later.ensures.value c.beyond-earlier.ensures.value; few = (omega (arith, ap (λ (g : StreamFigures). g.later) e, c.beyond-later.ensures.few), omega (arith, ap (λ (g : StreamFigures). g.earlier) e, c.beyond-earlier.ensures.few)) }
+    let e = c.slips_counted.ensures in record { value = e ∙ ap₂ (λ (a b : ℕ). slips_counted a b f) c.beyond-later.ensures.value c.beyond-earlier.ensures.value; few = (omega (arith, ap (λ (g : StreamFigures). g.later) e, c.beyond-later.ensures.few), omega (arith, ap (λ (g : StreamFigures). g.earlier) e, c.beyond-earlier.ensures.few)) }

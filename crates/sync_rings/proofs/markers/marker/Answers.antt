@@ -30,4 +30,4 @@ returns c =
     let d : ones (bit_xor v.result (get_or c.markers-markers.result k 0)) ≡ differing r (marker_bits k) =
     ap₂ (λ (x y : ℕ). ones (bit_xor x y)) v.ensures m
     ∙ xor_differing r (marker_bits k) 0 0 (length_ring xs a.from 16 ∙ sym (marker_length k)) (ring_binary xs a.from 16 c.requires.fact_1) (marker_binary k)
-    ∙ zero-add (differing r (marker_bits k)) in  record { ok = λ f p n e h. ap₂ (λ (x y : ℕ). eqb (x % 16384) (y % 16384)) (v.ensures ∙ ap (spell 0) (sixteen_ring xs a.from f p n e h)) g; errors = λ f p n e h. d ∙ ap (λ (l : List ℕ). differing l (marker_bits k)) (sixteen_ring xs a.from f p n e h); few = ones-le 16 (bit_xor v.result (get_or c.markers-markers.result k 0)) (xor_lt 16 v.result (get_or c.markers-markers.result k 0) (omega arith) small) }
+    ∙ zero-add (differing r (marker_bits k)) in record { ok = λ f p n e h. ap₂ (λ (x y : ℕ). eqb (x % 16384) (y % 16384)) (v.ensures ∙ ap (spell 0) (sixteen_ring xs a.from f p n e h)) g; errors = λ f p n e h. d ∙ ap (λ (l : List ℕ). differing l (marker_bits k)) (sixteen_ring xs a.from f p n e h); few = ones-le 16 (bit_xor v.result (get_or c.markers-markers.result k 0)) (xor_lt 16 v.result (get_or c.markers-markers.result k 0) (omega arith) small) }

@@ -35,7 +35,7 @@ pub brought-numbers-requires : goal.brought-numbers-requires
 brought-numbers-requires c =
     let F = c.loop-answer.invariant in
     let t = taking _ _ _ _ c.answer_to-answer.ensures (λ z. c.if-took-eq0.false (c.made-took.ensures ∙ z)) in
-     record { fact_1 = F.steady; fact_2 = (F.few.1, t.early); fact_3 = F.rings; fact_4 = omega (arith, t.good) }
+    record { fact_1 = F.steady; fact_2 = (F.few.1, t.early); fact_3 = F.rings; fact_4 = omega (arith, t.good) }
 
 pub overflow_add-used : goal.overflow_add-used
 overflow_add-used c =
@@ -46,7 +46,7 @@ pub sends-d-requires : goal.sends-d-requires
 sends-d-requires c =
     let b = c.brought-numbers.ensures in
     let t = taking _ _ _ _ c.answer_to-answer.ensures (λ z. c.if-took-eq0.false (c.made-took.ensures ∙ z)) in
-     record { fact_1 = b.rings.binary; fact_2 = b.steady; fact_3 = t.fits }
+    record { fact_1 = b.rings.binary; fact_2 = b.steady; fact_3 = t.fits }
 
 pub shape_of-room-then-d-ne0 : goal.shape_of-room-then-d-ne0
 shape_of-room-then-d-ne0 c = c.sends-d.auto.room ∙ ap length c.loop-answer.invariant.same_room

@@ -38,21 +38,24 @@ loop-i-preserved c =
     let a = c.args in
     let hv : l.i < length a.v = omega (arith, l.invariant.1, c.loop-i-test.true) in
     let ht : l.i < length a.t = omega (arith, l.invariant.2, c.loop-i-test.true) in
-    elim c.if-v-i-eq0.branch [ then-v-i-eq0 w ↦ let hy : l.j < length a.y = omega (arith, l.invariant.3, l.invariant.4, l.invariant.5.left, ap length (exponents_zero a.v l.i hv w.if-v-i-eq0.true)) in
-    let n = added_zero a.v a.t a.y l.i l.j l.invariant.5 hv ht hy w.if-v-i-eq0.true in (
-      omega arith,
-      l.invariant.1,
-      l.invariant.2,
-      l.invariant.3,
-      l.invariant.4,
-      subst (λ (j : ℕ). AddedFrom a.v a.t a.y (l.i + 1) j) (sym w.j-is) n.1,
-      subst (λ (o : List ℕ). Changing 0 a.t (λ k. get_or (added_at a.v a.t a.y) k 0) (l.i + 1) o) (sym w.out-is) (store 0 _ _ l.i l.out _ l.invariant.6 ht n.0),
-    ) | else-v-i-eq0 w ↦ let n = added_other a.v a.t a.y l.i l.j l.invariant.5 hv ht w.if-v-i-eq0.false in (
-      omega arith,
-      l.invariant.1,
-      l.invariant.2,
-      l.invariant.3,
-      l.invariant.4,
-      subst (λ (j : ℕ). AddedFrom a.v a.t a.y (l.i + 1) j) (sym w.j-is) n.1,
-      subst (λ (o : List ℕ). Changing 0 a.t (λ k. get_or (added_at a.v a.t a.y) k 0) (l.i + 1) o) (sym w.out-is) (same 0 _ _ l.i l.out l.invariant.6 n.0),
-    ) ]
+    elim c.if-v-i-eq0.branch [
+      | then-v-i-eq0 w ↦ let hy : l.j < length a.y = omega (arith, l.invariant.3, l.invariant.4, l.invariant.5.left, ap length (exponents_zero a.v l.i hv w.if-v-i-eq0.true)) in
+          let n = added_zero a.v a.t a.y l.i l.j l.invariant.5 hv ht hy w.if-v-i-eq0.true in (
+            omega arith,
+            l.invariant.1,
+            l.invariant.2,
+            l.invariant.3,
+            l.invariant.4,
+            subst (λ (j : ℕ). AddedFrom a.v a.t a.y (l.i + 1) j) (sym w.j-is) n.1,
+            subst (λ (o : List ℕ). Changing 0 a.t (λ k. get_or (added_at a.v a.t a.y) k 0) (l.i + 1) o) (sym w.out-is) (store 0 _ _ l.i l.out _ l.invariant.6 ht n.0),
+          )
+      | else-v-i-eq0 w ↦ let n = added_other a.v a.t a.y l.i l.j l.invariant.5 hv ht w.if-v-i-eq0.false in (
+        omega arith,
+        l.invariant.1,
+        l.invariant.2,
+        l.invariant.3,
+        l.invariant.4,
+        subst (λ (j : ℕ). AddedFrom a.v a.t a.y (l.i + 1) j) (sym w.j-is) n.1,
+        subst (λ (o : List ℕ). Changing 0 a.t (λ k. get_or (added_at a.v a.t a.y) k 0) (l.i + 1) o) (sym w.out-is) (same 0 _ _ l.i l.out l.invariant.6 n.0),
+      )
+    ]

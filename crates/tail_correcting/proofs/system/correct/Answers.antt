@@ -13,7 +13,7 @@ pub solve-y-requires : goal.solve-y-requires
 solve-y-requires c =
     let e = c.exponents-e in
     let lw : length c.args.w ≡ 14 = omega (arith, c.well_formed.1.1.1.1.0) in
-    let few = c.requires.fact_5 in  record { fact_1 = c.requires.fact_1; fact_2 = c.requires.fact_2; fact_3 = omega (arith, e.ensures.1, few); fact_4 = system_rows c.args.s c.args.w e.result.at e.result.count c.system-m.result lw few e.ensures.0 e.ensures.1 c.system-m.ensures; fact_5 = system_regular c.args.s c.args.w e.result.at e.result.count c.system-m.result lw few e.ensures.0 e.ensures.1 c.system-m.ensures }
+    let few = c.requires.fact_5 in record { fact_1 = c.requires.fact_1; fact_2 = c.requires.fact_2; fact_3 = omega (arith, e.ensures.1, few); fact_4 = system_rows c.args.s c.args.w e.result.at e.result.count c.system-m.result lw few e.ensures.0 e.ensures.1 c.system-m.ensures; fact_5 = system_regular c.args.s c.args.w e.result.at e.result.count c.system-m.result lw few e.ensures.0 e.ensures.1 c.system-m.ensures }
 
 pub returns : goal.returns
 returns c =

@@ -33,22 +33,25 @@ loop-i-preserved c = let l = c.loop-i in
     let v = c.args.v in
     let i = l.i in
     let h : i < length v = omega (arith, l.invariant.1, c.loop-i-test.true) in
-    elim c.if-v-i-eq0.branch [ then-v-i-eq0 w ↦ let z : get_or v i 0 ≡ 0 = w.if-v-i-eq0.true in
-    let s = ap length (exponents_zero v i h z) in
-    let fits : l.count < length l.at = omega (arith, l.invariant.2, l.invariant.3, l.invariant.4, s) in (
-      omega arith,
-      l.invariant.1,
-      ap length w.at-is ∙ length-set l.at l.count (13 - i) ∙ l.invariant.2,
-      omega (arith, w.count-is, l.invariant.3, s),
-      l.invariant.4,
-      ap₂ (λ (k : ℕ) (a : List ℕ). take k a ++ exponents_of (drop (i + 1) v)) w.count-is w.at-is
-          ∙ exponents_more v l.at l.count i (13 - i) h z fits (rest_length v i l.invariant.1 (omega arith)) ∙ l.invariant.5,
-    ) | else-v-i-eq0 w ↦ let o = exponents_other v i h w.if-v-i-eq0.false in (
-      omega arith,
-      l.invariant.1,
-      ap length w.at-is ∙ l.invariant.2,
-      omega (arith, w.count-is, l.invariant.3, ap length o),
-      l.invariant.4,
-      ap₂ (λ (k : ℕ) (a : List ℕ). take k a ++ exponents_of (drop (i + 1) v)) w.count-is w.at-is
-          ∙ ap (λ (p : List ℕ). take l.count l.at ++ p) (sym o) ∙ l.invariant.5,
-    ) ]
+    elim c.if-v-i-eq0.branch [
+      | then-v-i-eq0 w ↦ let z : get_or v i 0 ≡ 0 = w.if-v-i-eq0.true in
+          let s = ap length (exponents_zero v i h z) in
+          let fits : l.count < length l.at = omega (arith, l.invariant.2, l.invariant.3, l.invariant.4, s) in (
+            omega arith,
+            l.invariant.1,
+            ap length w.at-is ∙ length-set l.at l.count (13 - i) ∙ l.invariant.2,
+            omega (arith, w.count-is, l.invariant.3, s),
+            l.invariant.4,
+            ap₂ (λ (k : ℕ) (a : List ℕ). take k a ++ exponents_of (drop (i + 1) v)) w.count-is w.at-is
+                ∙ exponents_more v l.at l.count i (13 - i) h z fits (rest_length v i l.invariant.1 (omega arith)) ∙ l.invariant.5,
+          )
+      | else-v-i-eq0 w ↦ let o = exponents_other v i h w.if-v-i-eq0.false in (
+        omega arith,
+        l.invariant.1,
+        ap length w.at-is ∙ l.invariant.2,
+        omega (arith, w.count-is, l.invariant.3, ap length o),
+        l.invariant.4,
+        ap₂ (λ (k : ℕ) (a : List ℕ). take k a ++ exponents_of (drop (i + 1) v)) w.count-is w.at-is
+            ∙ ap (λ (p : List ℕ). take l.count l.at ++ p) (sym o) ∙ l.invariant.5,
+      )
+    ]

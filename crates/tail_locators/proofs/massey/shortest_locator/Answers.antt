@@ -12,7 +12,7 @@ pub loop-n-init : goal.loop-n-init
 loop-n-init c = (omega arith, search rules, run_zero _, omega arith, omega arith)
 
 pub step-st-requires : goal.step-st-requires
-step-st-requires c =  record { fact_1 = c.requires.fact_1; fact_2 = c.requires.fact_2; fact_3 = omega arith; fact_4 = c.loop-n.invariant.3; fact_5 = c.loop-n.invariant.4 }
+step-st-requires c = record { fact_1 = c.requires.fact_1; fact_2 = c.requires.fact_2; fact_3 = omega arith; fact_4 = c.loop-n.invariant.3; fact_5 = c.loop-n.invariant.4 }
 
 pub loop-n-preserved : goal.loop-n-preserved
 loop-n-preserved c =

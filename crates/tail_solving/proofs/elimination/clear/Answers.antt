@@ -54,8 +54,11 @@ loop-i-preserved c =
       omega arith,
       refl,
       c.loop-i.invariant.2,
-      elim c.if-i-col.branch [ then-i-col w ↦ subst (λ (o : List (List ℕ)). Changing [] m (row_at m col) (i + 1) o) (sym w.out-is)
-          (store [] _ _ i c.loop-i.out w.add_scaled.result c.loop-i.invariant.3 (omega (arith, c.loop-i.invariant.2))
-          (w.add_scaled.ensures ∙ sym (row_other m col i w.if-i-col.true))) | else-i-col w ↦ subst (λ (o : List (List ℕ)). Changing [] m (row_at m col) (i + 1) o) (sym w.out-is)
-          (same [] _ _ i c.loop-i.out c.loop-i.invariant.3 (sym (row-pivot m col i w.if-i-col.false))) ],
+      elim c.if-i-col.branch [
+        | then-i-col w ↦ subst (λ (o : List (List ℕ)). Changing [] m (row_at m col) (i + 1) o) (sym w.out-is)
+            (store [] _ _ i c.loop-i.out w.add_scaled.result c.loop-i.invariant.3 (omega (arith, c.loop-i.invariant.2))
+            (w.add_scaled.ensures ∙ sym (row_other m col i w.if-i-col.true)))
+        | else-i-col w ↦ subst (λ (o : List (List ℕ)). Changing [] m (row_at m col) (i + 1) o) (sym w.out-is)
+            (same [] _ _ i c.loop-i.out c.loop-i.invariant.3 (sym (row-pivot m col i w.if-i-col.false)))
+      ],
     )

@@ -7,11 +7,11 @@ use Rattle.tail_solving.proofs.elimination.eliminated.Goals as goal
 pub swap-a-requires : goal.swap-a-requires
 swap-a-requires c =
     let low = pivot_in c.args.count c.args.col c.pivot-i.result c.args.m c.requires.fact_5 c.pivot-i.ensures in
-     record { fact_1 = omega (arith, c.requires.fact_3); fact_2 = omega (arith, low, c.requires.fact_3) }
+    record { fact_1 = omega (arith, c.requires.fact_3); fact_2 = omega (arith, low, c.requires.fact_3) }
 
 pub clear-requires : goal.clear-requires
 clear-requires c =
-     record { fact_1 = c.requires.fact_1; fact_2 = c.requires.fact_2; fact_3 = omega (arith, c.requires.fact_3); fact_4 = omega (arith, c.requires.fact_3) }
+    record { fact_1 = c.requires.fact_1; fact_2 = c.requires.fact_2; fact_3 = omega (arith, c.requires.fact_3); fact_4 = omega (arith, c.requires.fact_3) }
 
 pub returns : goal.returns
 returns c =

@@ -12,7 +12,7 @@ loop-col-init c = (omega arith, c.requires.fact_3, solving_none _ _ c.requires.f
 pub eliminated-next-requires : goal.eliminated-next-requires
 eliminated-next-requires c = let l = c.loop-col in
     let test : l.col < c.args.count = c.loop-col-test.true in
-     record { fact_1 = c.requires.fact_1; fact_2 = c.requires.fact_2; fact_3 = (test, l.invariant.1); fact_4 = l.invariant.2.rows; fact_5 = solving_pivot c.args.count l.col c.args.m l.a test l.invariant.3 l.invariant.2 }
+    record { fact_1 = c.requires.fact_1; fact_2 = c.requires.fact_2; fact_3 = (test, l.invariant.1); fact_4 = l.invariant.2.rows; fact_5 = solving_pivot c.args.count l.col c.args.m l.a test l.invariant.3 l.invariant.2 }
 
 pub loop-col-preserved : goal.loop-col-preserved
 loop-col-preserved c = let l = c.loop-col in
