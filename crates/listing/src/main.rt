@@ -4,10 +4,19 @@
 
 #![tactic(auto)]
 
-fn main() {
-    if os::arg_count() > 1 {
-        channels::usage(b"listing");
-        return;
+use channels::Desk;
+use std::{env, io};
+
+fn main(rt: HostRuntime) -> io::Result<()> {
+    let mut desk = Desk {
+        out: rt.stdout(),
+        errors: rt.stderr(),
+        clock: rt,
+    };
+    if env::args(&rt)?.len() > 1 {
+        channels::usage(b"listing", &mut desk.errors);
+        return Ok(());
     }
-    task_lines::list(0);
+    task_lines::list(&mut rt.stdin(), &mut desk);
+    Ok(())
 }

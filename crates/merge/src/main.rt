@@ -4,36 +4,31 @@
 
 #![tactic(auto)]
 
-
-// Opens the file that argument i names and gives its descriptor; where that fails, it says so with the system's reason on standard error and gives a negative
-// number.
-fn open_argument(i: usize) -> i32 {
-    let mut name = io::buffer();
-    let n = os::arg(i, &mut name);
-    let fd = os::open_read(&name[..n]);
-    if fd < 0 {
-        channels::unreadable(&name[..n]);
-    }
-    fd
-}
+use channels::Desk;
+use std::{env, io};
 
 // Reads the table, opens both recordings and merges them; where one of the three is missing, nothing is merged.
-fn main() {
-    if os::arg_count() != 4 {
-        channels::usage(b"merge TABLE PRIMARY ALTERNATE");
-        return;
+fn main(rt: HostRuntime) -> io::Result<()> {
+    let mut desk = Desk {
+        out: rt.stdout(),
+        errors: rt.stderr(),
+        clock: rt,
+    };
+    let arguments: Vec<String> = env::args(&rt)?.collect(rt.alloc())?;
+    if arguments.len() != 4 {
+        channels::usage(b"merge TABLE PRIMARY ALTERNATE", &mut desk.errors);
+        return Ok(());
     }
     let mut table = [0u8; 188];
-    if !table_file::from_argument(1, 2, &mut table) {
-        return;
+    if !table_file::from_argument(&arguments[1], &rt, &mut desk.errors, &mut table) {
+        return Ok(());
     }
-    let primary = open_argument(2);
-    if primary < 0 {
-        return;
-    }
-    let alternate = open_argument(3);
-    if alternate < 0 {
-        return;
-    }
-    task_merge::merge(&table, primary, alternate);
+    let Ok(mut primary) = channels::open(&rt, &arguments[2], &mut desk.errors) else {
+        return Ok(());
+    };
+    let Ok(mut alternate) = channels::open(&rt, &arguments[3], &mut desk.errors) else {
+        return Ok(());
+    };
+    task_merge::merge(&table, &mut primary, &mut alternate, &mut desk);
+    Ok(())
 }

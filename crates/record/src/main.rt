@@ -4,18 +4,27 @@
 
 #![tactic(auto)]
 
-fn main() {
-    let arguments = os::arg_count();
-    if arguments < 2 {
-        task_records::record(0);
-        return;
+use channels::Desk;
+use std::{env, io};
+
+fn main(rt: HostRuntime) -> io::Result<()> {
+    let mut desk = Desk {
+        out: rt.stdout(),
+        errors: rt.stderr(),
+        clock: rt,
+    };
+    let arguments: Vec<String> = env::args(&rt)?.collect(rt.alloc())?;
+    if arguments.len() < 2 {
+        task_records::record(&mut rt.stdin(), &mut desk);
+        return Ok(());
     }
-    if arguments > 2 {
-        channels::usage(b"record [TABLE]");
-        return;
+    if arguments.len() > 2 {
+        channels::usage(b"record [TABLE]", &mut desk.errors);
+        return Ok(());
     }
     let mut table = [0u8; 188];
-    if table_file::from_argument(1, 2, &mut table) {
-        task_records::record_decoded(0, &table);
+    if table_file::from_argument(&arguments[1], &rt, &mut desk.errors, &mut table) {
+        task_records::record_decoded(&mut rt.stdin(), &table, &mut desk);
     }
+    Ok(())
 }

@@ -4,7 +4,6 @@
 
 #![tactic(auto)]
 
-
 // The crate `replay_list` reads the list and prints; a case is answered by its kind in `replay_voice` (1 to 11), `replay_sync` (12 to 14, 18 to 20) and
 // `replay_merger` (15 to 17).
 use merger::Merger;
@@ -12,12 +11,22 @@ use replay_list::{Tally, case_after, input_of, judged, no_whole_case};
 use replay_merger::merger_case;
 use replay_sync::synchroniser_case;
 use replay_voice::coding_case;
+use std::io::{Read, Write};
+use std::rt::Clock;
 use sync::Synchroniser;
 use sync_rules::ROOM_SIZE;
 
 // Runs the cases one after the other. Each is handed to the three that answer kinds, and two of them hand on the size of an answer that is not theirs.
 // A proved loop has to end, and nothing says that the input does: the turns are counted down, from a number that no run uses up.
-fn replayed(window: &mut [u8], table: &mut [u8], room: &mut [u8], out: &mut [u8]) {
+fn replayed<R: Read, W: Write, C: Clock>(
+    window: &mut [u8],
+    table: &mut [u8],
+    room: &mut [u8],
+    out: &mut [u8],
+    list: &mut R,
+    to: &mut W,
+    clock: &C,
+) {
     let mut sync = Synchroniser::new();
     let mut merger = Merger::new();
     let mut tabled: usize = 0;
@@ -30,7 +39,7 @@ fn replayed(window: &mut [u8], table: &mut [u8], room: &mut [u8], out: &mut [u8]
     let mut turns = u64::MAX;
     while 0 < turns {
         turns -= 1;
-        c = case_after(&mut *window, c);
+        c = case_after(&mut *window, c, list, clock);
         let input = input_of(&*window, c);
         let one = coding_case(c.kind, &mut *table, tabled, input, &mut *out);
         tabled = one.table;
@@ -38,7 +47,7 @@ fn replayed(window: &mut [u8], table: &mut [u8], room: &mut [u8], out: &mut [u8]
         sync = two.sync;
         let three = merger_case(c.kind, two.size, merger, input, &mut *out);
         merger = three.merger;
-        t = judged(t, &*window, c, &*out, three.size);
+        t = judged(t, &*window, c, &*out, three.size, to, clock);
         if !t.going {
             return;
         }
@@ -46,10 +55,18 @@ fn replayed(window: &mut [u8], table: &mut [u8], room: &mut [u8], out: &mut [u8]
 }
 
 // Lends all the memory that a run needs.
-fn main() {
+fn main(rt: HostRuntime) {
     let mut window = io::large_buffer();
     let mut table = [0u8; 256];
     let mut room = [0u8; ROOM_SIZE];
     let mut out = [0u8; 2048];
-    replayed(&mut window, &mut table, &mut room, &mut out);
+    replayed(
+        &mut window,
+        &mut table,
+        &mut room,
+        &mut out,
+        &mut rt.stdin(),
+        &mut rt.stdout(),
+        &rt,
+    );
 }

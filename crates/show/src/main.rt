@@ -5,10 +5,19 @@
 
 #![tactic(auto)]
 
-fn main() {
-    if os::arg_count() > 1 {
-        channels::usage(b"show");
-        return;
+use channels::Desk;
+use std::{env, io};
+
+fn main(rt: HostRuntime) -> io::Result<()> {
+    let mut desk = Desk {
+        out: rt.stdout(),
+        errors: rt.stderr(),
+        clock: rt,
+    };
+    if env::args(&rt)?.len() > 1 {
+        channels::usage(b"show", &mut desk.errors);
+        return Ok(());
     }
-    task_show::show(0);
+    task_show::show(&mut rt.stdin(), &mut desk);
+    Ok(())
 }

@@ -4,13 +4,23 @@
 
 #![tactic(auto)]
 
-fn main() {
-    if os::arg_count() != 2 {
-        channels::usage(b"speech TABLE");
-        return;
+use channels::Desk;
+use std::{env, io};
+
+fn main(rt: HostRuntime) -> io::Result<()> {
+    let mut desk = Desk {
+        out: rt.stdout(),
+        errors: rt.stderr(),
+        clock: rt,
+    };
+    let arguments: Vec<String> = env::args(&rt)?.collect(rt.alloc())?;
+    if arguments.len() != 2 {
+        channels::usage(b"speech TABLE", &mut desk.errors);
+        return Ok(());
     }
     let mut table = [0u8; 188];
-    if table_file::from_argument(1, 2, &mut table) {
-        task_records::speak(0, &table);
+    if table_file::from_argument(&arguments[1], &rt, &mut desk.errors, &mut table) {
+        task_records::speak(&mut rt.stdin(), &table, &mut desk);
     }
+    Ok(())
 }

@@ -111,7 +111,10 @@ fn show_one<R: Read, W: Write, E: Write, C: Clock>(
 
 // Prints the whole journal and gives its counts. A proved loop has to end, and nothing says that the input does: the loop counts its turns down, from a
 // number that no run uses up.
-pub fn show<R: Read, W: Write, E: Write, C: Clock>(input: &mut R, desk: &mut Desk<W, E, C>) -> Printed
+pub fn show<R: Read, W: Write, E: Write, C: Clock>(
+    input: &mut R,
+    desk: &mut Desk<W, E, C>,
+) -> Printed
     ensures { Counts result }
 {
     let mut p = Printed {
