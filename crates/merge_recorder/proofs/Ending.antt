@@ -149,7 +149,7 @@ module _ (r : MergeRecorder) (v : ValidMerge r) (out left : List ℕ) (large : m
         second = v.second;
         work = valid;
         told = omega (arith, v.told, ap (λ (z : Pile). told_of z.answered) moved.pile, ap told_of (times_told Absent Absent true 16 (pile_of r.work)));
-        idle = idle_empty w.merger valid.accounted.valid _ _ _ (all_out w.merger valid.accounted.valid Absent Absent idle);
+        idle = idle_empty w.merger valid.accounted.valid (At r.first.numbers.figures.clock) (At r.second.numbers.figures.clock) false (all_out w.merger valid.accounted.valid Absent Absent idle);
       })
 
 -- ---- the start

@@ -1,0 +1,7 @@
+use mathlib.Core.List.{[]}
+use Rattle.demands.proofs.Carried.{repairs}
+use Rattle.demands.proofs.RefusedSizes as sizes
+use Rattle.demand_coding.proofs.repair.Goals as goal
+
+pub returns : goal.returns
+returns c = let e = c.repair.ensures in repairs e.value e.leaves (sizes.repair_erasures _ [])
