@@ -35,7 +35,7 @@ take-a-requires c =
     let a = c.args in
     let go = c.goes_on.ensures.yes c.loop-one-test.true in
     let all = all_there a.primary.now a.alternate.now a.from a.start _ _ _ a.over a.ended c.dibits_left-p.ensures c.dibits_left-q.ensures c.available-all.ensures in
-     record { fact_1 = l.invariant.2.paired.first; fact_2 = c.requires.fact_2; fact_3 = omega (arith, go.0, all) }
+    record { fact_1 = l.invariant.2.paired.first; fact_2 = c.requires.fact_2; fact_3 = omega (arith, go.0, all) }
 
 pub take-b-requires : goal.take-b-requires
 take-b-requires c =
@@ -43,7 +43,7 @@ take-b-requires c =
     let a = c.args in
     let go = c.goes_on.ensures.yes c.loop-one-test.true in
     let all = all_there a.primary.now a.alternate.now a.from a.start _ _ _ a.over a.ended c.dibits_left-p.ensures c.dibits_left-q.ensures c.available-all.ensures in
-     record { fact_1 = l.invariant.2.paired.second; fact_2 = c.requires.fact_3; fact_3 = omega (arith, go.0, all) }
+    record { fact_1 = l.invariant.2.paired.second; fact_2 = c.requires.fact_3; fact_3 = omega (arith, go.0, all) }
 
 pub overflow_add-i : goal.overflow_add-i
 overflow_add-i c =
@@ -68,7 +68,7 @@ made_of-moved-requires c =
     let go = c.goes_on.ensures.yes c.loop-one-test.true in
     let all = all_there a.primary.now a.alternate.now a.from a.start _ _ _ a.over a.ended c.dibits_left-p.ensures c.dibits_left-q.ensures c.available-all.ensures in
     let p = l.invariant.2.paired in
-     record { fact_1 = p.work; fact_2 = told_few _ _ _ _ _ _ l.work p; fact_3 = c.take-a.ensures.few; fact_4 = c.take-b.ensures.few; fact_5 = go.1 }
+    record { fact_1 = p.work; fact_2 = told_few _ _ _ _ _ _ l.work p; fact_3 = c.take-a.ensures.few; fact_4 = c.take-b.ensures.few; fact_5 = go.1 }
 
 pub loop-one-smaller-then-busy : goal.loop-one-smaller-then-busy
 loop-one-smaller-then-busy c =
@@ -114,8 +114,7 @@ loop-one-preserved c =
     let n = view_of l.others l.their l.figures in
     let s = stretch_as m n c.dibits_left-p.result c.dibits_left-q.result l.i c.stretch-n.result _ _ c.left_of.ensures c.left_of-in-loop-one.ensures (c.stretch-n.ensures.value l.bits l.rels l.others l.their) in
     let within = within_all a.over a.ended m n _ _ l.i _ s (omega (arith, go.0, c.available-all.ensures)) in
-    let r = stretched a.primary.now a.alternate.now a.from a.start m n l.i _ _ _ c.dibits_left-p.ensures c.dibits_left-q.ensures s in
-    (
+    let r = stretched a.primary.now a.alternate.now a.from a.start m n l.i _ _ _ c.dibits_left-p.ensures c.dibits_left-q.ensures s in (
       omega (arith, within, c.available-all.ensures),
       l.invariant.1,
       round_calm (tried_of a.table.now) _ _ (packed_dibits a.primary.now a.from) (packed_dibits a.alternate.now a.start) (both_of a.r) _ _ (ap (λ (z : Laid). z.size) c.nothing_laid-laid.ensures) l.i l.bits l.rels l.numbers l.others l.their l.figures l.work _ _ l.invariant.2
@@ -132,4 +131,4 @@ returns c =
     let all = all_there a.primary.now a.alternate.now a.from a.start _ _ _ a.over a.ended c.dibits_left-p.ensures c.dibits_left-q.ensures c.available-all.ensures in
     let s = stepped_by (tried_of a.table.now) a.primary.now a.alternate.now a.from a.start a.over a.ended a.r _ _ c.requires.fact_4 l.i _ l.bits l.rels l.numbers l.others l.their l.figures l.work _ _ c.nothing_laid-laid.ensures l.invariant.2 all l.invariant.0
     (⊎_elim (λ h. inl h) (λ h. inr (omega (arith, h, l.invariant.1))) (c.goes_on.ensures.no c.loop-one-test.false)) _ _ c.held_in.ensures c.held_in-2.ensures _ c.stepped.ensures in
-     record { merge_stepped_by = s.0; valid = s.1 }
+    record { merge_stepped_by = s.0; valid = s.1 }

@@ -18,4 +18,4 @@ slice_bounds-step_in-end c =
 pub step_in-requires : goal.step_in-requires
 step_in-requires c =
     let size = length c.args.out.now in
-     record { fact_1 = c.requires; fact_2 = sym (room_long c.need_of.result size _ c.room_for-size.ensures) ∙ c.room_for-size.ensures ∙ ap (λ (n : ℕ). room_for n size) c.need_of.ensures }
+    record { fact_1 = c.requires; fact_2 = sym (room_long c.need_of.result size _ c.room_for-size.ensures) ∙ c.room_for-size.ensures ∙ ap (λ (n : ℕ). room_for n size) c.need_of.ensures }

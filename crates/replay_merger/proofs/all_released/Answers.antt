@@ -19,7 +19,7 @@ loop-gone-init c =
 pub released_once-s-requires : goal.released_once-s-requires
 released_once-s-requires c =
     let inv = c.loop-gone.invariant in
-     record { fact_1 = inv.1; fact_2 = omega (arith, inv.3.puts.goes_on, same_long inv.3.puts) }
+    record { fact_1 = inv.1; fact_2 = omega (arith, inv.3.puts.goes_on, same_long inv.3.puts) }
 
 pub returns : goal.returns
 returns c = absurd (omega arith)

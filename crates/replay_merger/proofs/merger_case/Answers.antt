@@ -27,7 +27,7 @@ returns-in-15 c =
     let kind : ℕ = c.args.kind in
     let told : Turned (own new_case) c.args.m c.args.size out out (record { size = 0; merger = c.new.result }) =
     record { valid = c.new.ensures.1; leaves = c.new.ensures.0; tells = put_none out 0 0 (sym (min-zero (length out))); kept = λ k. absurd (fits [] k) } in
-     record { turned = turned_as _ _ _ _ _ (own new_case) (turn_of kind input v) (sym (ap (λ (k : ℕ). turn_of k input v) c.in-15.is)) told; sound = c.new.ensures.1 }
+    record { turned = turned_as _ _ _ _ _ (own new_case) (turn_of kind input v) (sym (ap (λ (k : ℕ). turn_of k input v) c.in-15.is)) told; sound = c.new.ensures.1 }
 
 pub returns-in-16 : goal.returns-in-16
 returns-in-16 c =
@@ -35,7 +35,7 @@ returns-in-16 c =
     let out : List ℕ = c.args.out.now in
     let v : View = view_of c.args.m in
     let kind : ℕ = c.args.kind in
-     record { turned = turned_as _ _ _ _ _ (own (push_case input v)) (turn_of kind input v) (sym (ap (λ (k : ℕ). turn_of k input v) c.in-16.is)) c.merger_pushed.ensures; sound = c.merger_pushed.ensures.valid }
+    record { turned = turned_as _ _ _ _ _ (own (push_case input v)) (turn_of kind input v) (sym (ap (λ (k : ℕ). turn_of k input v) c.in-16.is)) c.merger_pushed.ensures; sound = c.merger_pushed.ensures.valid }
 
 pub returns-in-17 : goal.returns-in-17
 returns-in-17 c =
@@ -43,4 +43,4 @@ returns-in-17 c =
     let out : List ℕ = c.args.out.now in
     let v : View = view_of c.args.m in
     let kind : ℕ = c.args.kind in
-     record { turned = turned_as _ _ _ _ _ (own (release_case input v)) (turn_of kind input v) (sym (ap (λ (k : ℕ). turn_of k input v) c.in-17.is)) c.released.ensures; sound = c.released.ensures.valid }
+    record { turned = turned_as _ _ _ _ _ (own (release_case input v)) (turn_of kind input v) (sym (ap (λ (k : ℕ). turn_of k input v) c.in-17.is)) c.released.ensures; sound = c.released.ensures.valid }

@@ -27,7 +27,7 @@ returns-in-12 c =
     let kind : ℕ = c.args.kind in
     let told : Turned (own (new_case room)) c.args.s c.args.size room room c.args.out.now c.args.out.now (record { size = 0; sync = c.new.result }) =
     record { valid = c.new.ensures.valid_synchroniser; next = c.new.ensures.view; stored = refl; tells = put_none c.args.out.now 0 0 (sym (min-zero (length c.args.out.now))); kept = λ k. absurd (fits [] k) } in
-     record { turned = turned_as _ _ _ _ _ _ _ (own (new_case room)) (turn_of kind room input m) (sym (ap (λ (k : ℕ). turn_of k room input m) c.in-12.is)) told; sound = c.new.ensures.valid_synchroniser }
+    record { turned = turned_as _ _ _ _ _ _ _ (own (new_case room)) (turn_of kind room input m) (sym (ap (λ (k : ℕ). turn_of k room input m) c.in-12.is)) told; sound = c.new.ensures.valid_synchroniser }
 
 pub returns-in-13 : goal.returns-in-13
 returns-in-13 c =
@@ -35,7 +35,7 @@ returns-in-13 c =
     let room : List ℕ = c.args.room.now in
     let m : State = view c.args.s in
     let kind : ℕ = c.args.kind in
-     record { turned = turned_as _ _ _ _ _ _ _ (own (pushed_case room input m)) (turn_of kind room input m) (sym (ap (λ (k : ℕ). turn_of k room input m) c.in-13.is)) c.pushed.ensures; sound = c.pushed.ensures.valid }
+    record { turned = turned_as _ _ _ _ _ _ _ (own (pushed_case room input m)) (turn_of kind room input m) (sym (ap (λ (k : ℕ). turn_of k room input m) c.in-13.is)) c.pushed.ensures; sound = c.pushed.ensures.valid }
 
 pub returns-in-14 : goal.returns-in-14
 returns-in-14 c =
@@ -43,7 +43,7 @@ returns-in-14 c =
     let room : List ℕ = c.args.room.now in
     let m : State = view c.args.s in
     let kind : ℕ = c.args.kind in
-     record { turned = turned_as _ _ _ _ _ _ _ (own (push_case room (soft_push input) m)) (turn_of kind room input m) (sym (ap (λ (k : ℕ). turn_of k room input m) c.in-14.is)) c.pushed_soft.ensures; sound = c.pushed_soft.ensures.valid }
+    record { turned = turned_as _ _ _ _ _ _ _ (own (push_case room (soft_push input) m)) (turn_of kind room input m) (sym (ap (λ (k : ℕ). turn_of k room input m) c.in-14.is)) c.pushed_soft.ensures; sound = c.pushed_soft.ensures.valid }
 
 pub returns-in-18 : goal.returns-in-18
 returns-in-18 c =
@@ -51,7 +51,7 @@ returns-in-18 c =
     let room : List ℕ = c.args.room.now in
     let m : State = view c.args.s in
     let kind : ℕ = c.args.kind in
-     record { turned = turned_as _ _ _ _ _ _ _ (own (fed_case room input m)) (turn_of kind room input m) (sym (ap (λ (k : ℕ). turn_of k room input m) c.in-18.is)) c.fed.ensures; sound = c.fed.ensures.valid }
+    record { turned = turned_as _ _ _ _ _ _ _ (own (fed_case room input m)) (turn_of kind room input m) (sym (ap (λ (k : ℕ). turn_of k room input m) c.in-18.is)) c.fed.ensures; sound = c.fed.ensures.valid }
 
 pub returns-in-19 : goal.returns-in-19
 returns-in-19 c =
@@ -59,7 +59,7 @@ returns-in-19 c =
     let room : List ℕ = c.args.room.now in
     let m : State = view c.args.s in
     let kind : ℕ = c.args.kind in
-     record { turned = turned_as _ _ _ _ _ _ _ (own (fed_soft_case room input m)) (turn_of kind room input m) (sym (ap (λ (k : ℕ). turn_of k room input m) c.in-19.is)) c.fed_soft.ensures; sound = c.fed_soft.ensures.valid }
+    record { turned = turned_as _ _ _ _ _ _ _ (own (fed_soft_case room input m)) (turn_of kind room input m) (sym (ap (λ (k : ℕ). turn_of k room input m) c.in-19.is)) c.fed_soft.ensures; sound = c.fed_soft.ensures.valid }
 
 pub returns-in-20 : goal.returns-in-20
 returns-in-20 c =
@@ -67,4 +67,4 @@ returns-in-20 c =
     let room : List ℕ = c.args.room.now in
     let m : State = view c.args.s in
     let kind : ℕ = c.args.kind in
-     record { turned = turned_as _ _ _ _ _ _ _ (own (fed_packed_case room input m)) (turn_of kind room input m) (sym (ap (λ (k : ℕ). turn_of k room input m) c.in-20.is)) c.fed_packed.ensures; sound = c.fed_packed.ensures.valid }
+    record { turned = turned_as _ _ _ _ _ _ _ (own (fed_packed_case room input m)) (turn_of kind room input m) (sym (ap (λ (k : ℕ). turn_of k room input m) c.in-20.is)) c.fed_packed.ensures; sound = c.fed_packed.ensures.valid }

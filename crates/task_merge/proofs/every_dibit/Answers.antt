@@ -25,14 +25,14 @@ loop-turns-init g c =
     )
 
 pub refilled-one-requires : goal.refilled-one-requires
-refilled-one-requires g c = let i = c.loop-turns.invariant in  record { fact_1 = i.3.sound; fact_2 = omega (arith, i.0) }
+refilled-one-requires g c = let i = c.loop-turns.invariant in record { fact_1 = i.3.sound; fact_2 = omega (arith, i.0) }
 
 pub refilled-two-requires : goal.refilled-two-requires
-refilled-two-requires g c = let i = c.loop-turns.invariant in  record { fact_1 = i.3.other; fact_2 = omega (arith, i.1) }
+refilled-two-requires g c = let i = c.loop-turns.invariant in record { fact_1 = i.3.other; fact_2 = omega (arith, i.1) }
 
 pub step_both-a-requires : goal.step_both-a-requires
 step_both-a-requires g c =
-     record { fact_1 = c.loop-turns.invariant.3.valid; fact_2 = c.refilled-one.ensures.sound; fact_3 = c.refilled-two.ensures.sound }
+    record { fact_1 = c.loop-turns.invariant.3.valid; fact_2 = c.refilled-one.ensures.sound; fact_3 = c.refilled-two.ensures.sound }
 
 pub slice_bounds-out-end : goal.slice_bounds-out-end
 slice_bounds-out-end g c =
@@ -42,12 +42,12 @@ slice_bounds-out-end g c =
 pub beside-one-requires : goal.beside-one-requires
 beside-one-requires g c =
     let f = c.refilled-one in
-     record { fact_1 = f.ensures.sound.from; fact_2 = omega (arith, f.ensures.sound.size, f.ensures.kept, c.loop-turns.invariant.0) }
+    record { fact_1 = f.ensures.sound.from; fact_2 = omega (arith, f.ensures.sound.size, f.ensures.kept, c.loop-turns.invariant.0) }
 
 pub beside-two-requires : goal.beside-two-requires
 beside-two-requires g c =
     let g = c.refilled-two in
-     record { fact_1 = g.ensures.sound.from; fact_2 = omega (arith, g.ensures.sound.size, g.ensures.kept, c.loop-turns.invariant.1) }
+    record { fact_1 = g.ensures.sound.from; fact_2 = omega (arith, g.ensures.sound.size, g.ensures.kept, c.loop-turns.invariant.1) }
 
 pub loop-turns-preserved-then-both_go_on : goal.loop-turns-preserved-then-both_go_on
 loop-turns-preserved-then-both_go_on g c =

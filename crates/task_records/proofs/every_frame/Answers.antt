@@ -16,7 +16,7 @@ loop-turns-init g c =
     (sym c.buffer-buf.ensures, refl, subst (λ (k : Cursor). Hearing (making_of c.args.asked c.args.table.now) c.start-r.result c.buffer-buf.result k 0) (sym c.opened-cursor.ensures) (hearing_start (making_of c.args.asked c.args.table.now) c.start-r.result c.buffer-buf.result c.start-r.ensures))
 
 pub refilled-cursor-requires : goal.refilled-cursor-requires
-refilled-cursor-requires g c = let i = c.loop-turns.invariant in  record { fact_1 = i.2.sound; fact_2 = omega (arith, i.0) }
+refilled-cursor-requires g c = let i = c.loop-turns.invariant in record { fact_1 = i.2.sound; fact_2 = omega (arith, i.0) }
 
 pub slice_bounds-buf-end : goal.slice_bounds-buf-end
 slice_bounds-buf-end g c = c.refilled-cursor.ensures.sound.size
@@ -87,8 +87,8 @@ loop-turns-smaller g c = omega arith
 
 pub slice_bounds-write_whole-end : goal.slice_bounds-write_whole-end
 slice_bounds-write_whole-end g c = sym (length-take-le c.step-a.result.size c.step-a.new.out (let f = c.refilled-cursor in
-        let l = c.loop-turns in
-        let k = c.args in
-        let p = making_of k.asked k.table.now in
-        let q = asked_sequential k.asked k.table.now in
-        turn_fits p q l.r l.buf f.new.buf l.cursor f.result l.accepted l.invariant.2 f.ensures.refilled f.ensures.sound l.out c.step-a.new.out c.step-a.result c.step-a.ensures))
+    let l = c.loop-turns in
+    let k = c.args in
+    let p = making_of k.asked k.table.now in
+    let q = asked_sequential k.asked k.table.now in
+    turn_fits p q l.r l.buf f.new.buf l.cursor f.result l.accepted l.invariant.2 f.ensures.refilled f.ensures.sound l.out c.step-a.new.out c.step-a.result c.step-a.ensures))

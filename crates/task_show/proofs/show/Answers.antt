@@ -8,7 +8,7 @@ pub loop-turns-init : goal.loop-turns-init
 loop-turns-init g c = (none_yet, omega arith)
 
 pub show_one-t-requires : goal.show_one-t-requires
-show_one-t-requires g c =  record { fact_1 = c.loop-turns.invariant.0; fact_2 = omega (arith, c.loop-turns.invariant.1) }
+show_one-t-requires g c = record { fact_1 = c.loop-turns.invariant.0; fact_2 = omega (arith, c.loop-turns.invariant.1) }
 
 pub overflow_sub-turns : goal.overflow_sub-turns
 overflow_sub-turns g c = omega arith

@@ -29,14 +29,14 @@ bounds-heads-k c = omega (arith, c.requires.few)
 
 pub slot-requires : goal.slot-requires
 slot-requires c =
-     record { fact_1 = omega (arith, c.requires.few); fact_2 = c.requires.slots (omega arith) }
+    record { fact_1 = omega (arith, c.requires.few); fact_2 = c.requires.slots (omega arith) }
 
 pub lay_frame-laid-requires : goal.lay_frame-laid-requires
 lay_frame-laid-requires c =
     let a = c.args in
     let k = c.loop-k.k in
     let some = c.requires.slots (omega arith) in
-    let roomy = still_roomy a.asked a.table.now a.heads a.room.now a.out.now c.loop-k.out a.earlier c.loop-k.laid k a.count (omega arith) c.requires c.loop-k.invariant.1.1 in  record { fact_1 = c.requires.good k (omega arith); fact_2 = slot_whole a.room.now k _ (omega (arith, c.requires.few)) c.slot.ensures; fact_3 = omega (arith, c.loop-k.invariant.1.0, roomy.size); fact_4 = roomy.accepted }
+    let roomy = still_roomy a.asked a.table.now a.heads a.room.now a.out.now c.loop-k.out a.earlier c.loop-k.laid k a.count (omega arith) c.requires c.loop-k.invariant.1.1 in record { fact_1 = c.requires.good k (omega arith); fact_2 = slot_whole a.room.now k _ (omega (arith, c.requires.few)) c.slot.ensures; fact_3 = omega (arith, c.loop-k.invariant.1.0, roomy.size); fact_4 = roomy.accepted }
 
 pub loop-k-preserved : goal.loop-k-preserved
 loop-k-preserved c =
