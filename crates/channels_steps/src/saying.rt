@@ -2,9 +2,9 @@
 ghost use Rattle.std.specs.Prelude.{◌≤◌, length};
 ghost use Rattle.io.specs.Counts.{IsPrefixLen};
 
-use std::fs;
-use std::io::{Cursor, Error, Result, Write};
+use std::io::{Cursor, Error, ErrorKind, Result, Write};
 use std::rt::Files;
+use std::{fs, str};
 
 // Lays the bytes into lent memory from index `from` on, as many as find room, and gives the index behind the last.
 fn lay(bytes: &[u8], from: usize, room: &mut [u8]) -> usize
@@ -69,15 +69,22 @@ pub fn unreadable<E: Write>(name: &[u8], reason: Error, errors: &mut E) {
     fail(&text[..end], reason, errors);
 }
 
+// Opens the file of that name for reading. A name that is no text in UTF-8 names none: the language's library opens files by text alone.
+pub fn file_of<F: Files>(files: &F, name: &[u8]) -> Result<F::File> {
+    match str::from_utf8(name) {
+        Ok(text) => fs::open(files, text),
+        Err(_) => Err(Error::from(ErrorKind::InvalidInput)),
+    }
+}
+
 // Opens the file of that name for reading; where that fails it says `cannot read NAME: REASON` and gives the reason.
-pub fn open<F: Files, E: Write>(files: &F, name: &str, errors: &mut E) -> Result<F::File> {
-    let opened = fs::open(files, name);
+pub fn open<F: Files, E: Write>(files: &F, name: &[u8], errors: &mut E) -> Result<F::File> {
+    let opened = file_of(files, name);
     if let Err(reason) = &opened {
-        unreadable(name.as_bytes(), *reason, errors);
+        unreadable(name, *reason, errors);
     }
     opened
 }
-
 // Says on standard error how a program is called: `usage: ` and the text.
 pub fn usage<E: Write>(text: &[u8], errors: &mut E) {
     let _ = errors.write_all(b"usage: ");

@@ -13,7 +13,7 @@ use Rattle.sync.specs.declared.Synchroniser.{Synchroniser}
 use Rattle.sync_inputs.specs.declared.Push.TheVariants.{Taken}
 use Rattle.sync.specs.View.{view}
 use Rattle.sync_inputs.specs.Answers.{answer_to}
-use Rattle.sync_call_rules.specs.Calls.{Call, History, state_of, accepted, Got, handed, shown_as, stream_of, place_in, last_got, first_got, got_in_aRow}
+use Rattle.sync_call_rules.specs.Calls.{Call, History, state_of, accepted, Got, handed, shown_as, stream_of, place_in, last_got, first_got, got_in_a_row}
 use Rattle.sync_call_rules.specs.Statements.{calls_follow, demand_calls, moves_got, move_calls}
 use Rattle.sync_call_rules.proofs.Shown.{shown_length}
 use Rattle.sync_rules.specs.Slips.{SlippedBy, net_of_all, slips_of_all}
@@ -39,13 +39,13 @@ standing s a o =
       envelope = envelope_of (take 384 (drop a s));
     }
 
-row_length : (s : List ℕ) (q o k : ℕ) → length (got_in_aRow s q o k) ≡ k
-unfolding got_in_aRow
+row_length : (s : List ℕ) (q o k : ℕ) → length (got_in_a_row s q o k) ≡ k
+unfolding got_in_a_row
 row_length s q o zero = refl
 row_length s q o (suc k) = ap suc (row_length s (q + 384) (o + 384) k)
 
-row_at : (s : List ℕ) (q o k j : ℕ) → j < k → frame (got_in_aRow s q o k) j ≡ standing s (q + 384 * j) (o + 384 * j)
-unfolding got_in_aRow
+row_at : (s : List ℕ) (q o k j : ℕ) → j < k → frame (got_in_a_row s q o k) j ≡ standing s (q + 384 * j) (o + 384 * j)
+unfolding got_in_a_row
 row_at s q o zero j h = absurd (omega arith)
 row_at s q o (suc k) zero h =
     let a : q ≡ q + 384 * 0 = omega arith in
@@ -56,7 +56,7 @@ row_at s q o (suc k) (suc j) h =
     let b : o + 384 + 384 * j ≡ o + 384 * suc j = omega arith in
     row_at s (q + 384) (o + 384) k j (omega arith) ∙ ap₂ (standing s) a b
 
-module _ (s : List ℕ) (q o k : ℕ) (out : List Got) (row : take k out ≡ got_in_aRow s q o k) where
+module _ (s : List ℕ) (q o k : ℕ) (out : List Got) (row : take k out ≡ got_in_a_row s q o k) where
   row_out : k ≤ length out
   row_out = omega (arith, length-take k out, ap length row, row_length s q o k)
 
@@ -79,7 +79,7 @@ unfolding first_got last_got
 first_some [] f p q = refl
 first_some (g ∷ gs) f p q = ap (λ (n : ℕ). n + 384 + (q - p)) (last_of g.head.offset gs f)
 
-exactly : (bits : List ℕ) (p q k : ℕ) (earlier out : List Got) → 0 < k → take k out ≡ got_in_aRow bits q (first_got earlier p q) k
+exactly : (bits : List ℕ) (p q k : ℕ) (earlier out : List Got) → 0 < k → take k out ≡ got_in_a_row bits q (first_got earlier p q) k
     → Exact bits p q k earlier out
 exactly bits p q k earlier out h row =
     let o = first_got earlier p q in

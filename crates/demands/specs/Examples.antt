@@ -30,9 +30,9 @@ pub data Example : Type 0 where
   lies : ℕ → ℕ → Example
   -- these 16 bits: whether they match the first marker, and with how many errors
   first_marker : ℕ → Bool → ℕ → Example
-  -- stand_in_lem table, only these input bits set: these coded bits alone are one
+  -- stand-in table, only these input bits set: these coded bits alone are one
   codes : List ℕ → List ℕ → Example
-  -- this entry of the stand_in_lem table is that number
+  -- this entry of the stand-in table is that number
   entry : ℕ → ℕ → Example
   -- the table is admitted
   admitted : List ℕ → Example
@@ -113,9 +113,9 @@ starred =
     ∷ lies 0 16 ∷ lies 111 127 ∷ lies 112 144 ∷ lies 335 383
     -- fd22 matches the first marker with 2 errors; 3d23 does not, 1 error
     ∷ first_marker 0xfd22 true 2 ∷ first_marker 0x3d23 false 1
-    -- stand_in_lem table, only input bit 93 set: coded bits 174 and 175 alone are one
+    -- stand-in table, only input bit 93 set: coded bits 174 and 175 alone are one
     ∷ codes (93 ∷ []) (174 ∷ 175 ∷ [])
-    -- the stand_in_lem table is admitted; with its number 14 (entry 15) replaced by 13, refusal 4
+    -- the stand-in table is admitted; with its number 14 (entry 15) replaced by 13, refusal 4
     ∷ admitted stand_in ∷ entry 15 14 ∷ refusal (set stand_in 15 13) 4
     -- merger, last released 1000: offset 1192 is late, 1193 is not
     ∷ late 1000 1192 true ∷ late 1000 1193 false

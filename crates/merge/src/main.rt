@@ -4,31 +4,39 @@
 
 #![tactic(auto)]
 
-use channels::Desk;
-use std::{env, io};
+use channels::{Desk, has_argument};
+use std::io::{Result, Write};
+use std::rt::{Env, Files};
+
+// Opens the file that argument i names; where that fails, it says so with the system's reason on standard error.
+fn open_argument<F: Files + Env, E: Write>(i: usize, rt: &F, errors: &mut E) -> Result<F::File> {
+    let mut name = io::buffer();
+    match channels::argument(rt, i, &mut name) {
+        Some(n) => channels::open(rt, &name[..n], errors),
+        None => channels::open(rt, b"", errors),
+    }
+}
 
 // Reads the table, opens both recordings and merges them; where one of the three is missing, nothing is merged.
-fn main(rt: HostRuntime) -> io::Result<()> {
+fn main(rt: HostRuntime) {
     let mut desk = Desk {
         out: rt.stdout(),
         errors: rt.stderr(),
         clock: rt,
     };
-    let arguments: Vec<String> = env::args(&rt)?.collect(rt.alloc())?;
-    if arguments.len() != 4 {
+    if !has_argument(&rt, 3) || has_argument(&rt, 4) {
         channels::usage(b"merge TABLE PRIMARY ALTERNATE", &mut desk.errors);
-        return Ok(());
+        return;
     }
     let mut table = [0u8; 188];
-    if !table_file::from_argument(&arguments[1], &rt, &mut desk.errors, &mut table) {
-        return Ok(());
+    if !table_file::from_argument(1, &rt, &mut desk.errors, &mut table) {
+        return;
     }
-    let Ok(mut primary) = channels::open(&rt, &arguments[2], &mut desk.errors) else {
-        return Ok(());
+    let Ok(mut primary) = open_argument(2, &rt, &mut desk.errors) else {
+        return;
     };
-    let Ok(mut alternate) = channels::open(&rt, &arguments[3], &mut desk.errors) else {
-        return Ok(());
+    let Ok(mut alternate) = open_argument(3, &rt, &mut desk.errors) else {
+        return;
     };
     task_merge::merge(&table, &mut primary, &mut alternate, &mut desk);
-    Ok(())
 }

@@ -17,7 +17,7 @@ use Rattle.merge_recorder_rules.specs.Statements.{MergeFresh}
 use Rattle.merge_recorder_rules.specs.Steps.{Going, ValidMerge, merge_need, flushed_in, MergeSteppedBy, MergeFlushedBy}
 use Rattle.merge_recorder_rules.specs.declared.MergeRecorder.{MergeRecorder}
 use Rattle.merge_recorder_rules.specs.declared.MergeStepped.{MergeStepped}
-use Rattle.merger.specs.States.{ValidMerger, view_of as mergerView}
+use Rattle.merger.specs.States.{ValidMerger, view_of as merger_view}
 use Rattle.merger.specs.declared.Merger.{Merger}
 use Rattle.merger_rules.specs.Merging.{View, release_of}
 use Rattle.merger_rules.specs.Scripts.{started}
@@ -161,7 +161,7 @@ all_fair (suc n) t f = (f, all_fair n t f)
 pub going_start : (s : Synchroniser) → length s.bits ≡ 1155 → length s.reliabilities ≡ 1155 → ValidSynchroniser s → Going s.bits s.reliabilities s.numbers
 going_start s long as_long v = record { rings = record { long = long; as_long = as_long; binary = v.binary }; steady = v.steady; few = v.few }
 
-module _ (x y : Synchroniser) (m : Merger) (shelf : Shelf) (ex : view x ≡ start) (ey : view y ≡ start) (em : mergerView m ≡ started) (es : shelf ≡ empty_shelf) where
+module _ (x y : Synchroniser) (m : Merger) (shelf : Shelf) (ex : view x ≡ start) (ey : view y ≡ start) (em : merger_view m ≡ started) (es : shelf ≡ empty_shelf) where
   abbrev work : Work
   work = record { merger = m; shelf = shelf; answered = record { kept = 0; late = 0; double = 0; refused = 0 }; gone = record { released = 0; others = 0; passed = 0 } }
 
@@ -180,7 +180,7 @@ module _ (x y : Synchroniser) (m : Merger) (shelf : Shelf) (ex : view x ≡ star
   fresh_valid v a b =
       let none = ap (λ (z : View). z.pending) em in
       let taken = ap (λ (z : Shelf). z.taken) es in
-      let shelved = empty_shelved shelf.taken (mergerView m).pending taken none in
+      let shelved = empty_shelved shelf.taken (merger_view m).pending taken none in
       record {
         first = a;
         second = b;
@@ -189,7 +189,7 @@ module _ (x y : Synchroniser) (m : Merger) (shelf : Shelf) (ex : view x ≡ star
             valid = v;
             slots = ap length taken ∙ length-replicate {A = Bool} 33 false;
             shelved = shelved;
-            balance = omega (arith, none_used shelf.taken (mergerView m).pending shelved (ap length none));
+            balance = omega (arith, none_used shelf.taken (merger_view m).pending shelved (ap length none));
           };
           storable = subst (λ (z : View). All StorablePosition z.pending) (sym em) tt;
           fair = subst (λ (z : Shelf). All FairTried z.tried) (sym es) (all_fair 33 (untried []) refl);

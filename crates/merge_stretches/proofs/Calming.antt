@@ -14,7 +14,7 @@ use Rattle.merger_rules.specs.declared.Clock.{Clock}
 use Rattle.merger_rules.specs.declared.Clock.TheVariants.{Absent, At}
 use Rattle.sync_inputs.specs.declared.Push.{Push}
 use Rattle.sync_inputs.specs.declared.Push.TheVariants.{Taken, Refused}
-use Rattle.sync_inputs.specs.Answers.{answerBy, answer_to}
+use Rattle.sync_inputs.specs.Answers.{answer_by, answer_to}
 use Rattle.sync_rules.specs.State.{State, Input}
 use Rattle.sync_rules.specs.Pushes.{step, run, quiet}
 use Rattle.sync_rules.proofs.Stillness.{quiet_rule_lem}
@@ -23,7 +23,7 @@ use Rattle.merge_stretches.specs.Stretches.{calm, at_once, stretch_of, settled_b
 use Rattle.merge_stretches.specs.Statements.{Calm, calm_rule, Stretch, stretch_rule}
 
 takes_it : (x : Input) (m : State) → x.dibit < 4 → m.figures.taken < 2 ^ 40 → answer_to 1296 x m ≡ Taken
-unfolding answer_to answerBy
+unfolding answer_to answer_by
 takes_it x m h k =
     sym
     (cond_no (leb (2 ^ 40) m.figures.taken) _ (Refused StreamEnd) Taken refl (lt-leb (2 ^ 40) m.figures.taken k)

@@ -21,7 +21,7 @@ use Rattle.recorder_rules.proofs.Feeding.{dibits_taken}
 use Rattle.recorder_rules.proofs.Rising.{Onward, onward_le, run_goes}
 use Rattle.sync_call_rules.specs.Calls.{Got, shown_as}
 use Rattle.sync_call_rules.proofs.Shown.{shown_append}
-use Rattle.sync_inputs.specs.Answers.{answerBy, answer_to}
+use Rattle.sync_inputs.specs.Answers.{answer_by, answer_to}
 use Rattle.sync_inputs.specs.declared.Push.{Push}
 use Rattle.sync_inputs.specs.declared.Push.TheVariants.{Taken, Refused}
 use Rattle.sync_rules.specs.Counts.{state_after}
@@ -81,11 +81,11 @@ dibit_at (x ∷ xs) (suc n) d h = dibit_at xs n d.1 (le_of_suc-le-suc h)
 -- ---- the answer to a dibit
 
 answers_taken : (x : Input) (m : State) → x.dibit < 4 → m.figures.taken < most_dibits → answer_to room_size x m ≡ Taken
-unfolding answer_to answerBy
+unfolding answer_to answer_by
 answers_taken x m d h = cond_ge {A = Push} 3 x.dibit _ _ (omega arith) ∙ cond_gt {A = Push} most_dibits m.figures.taken _ _ h
 
 answers_end : (x : Input) (m : State) → x.dibit < 4 → most_dibits ≤ m.figures.taken → answer_to room_size x m ≡ Refused StreamEnd
-unfolding answer_to answerBy
+unfolding answer_to answer_by
 answers_end x m d h = cond_ge {A = Push} 3 x.dibit _ _ (omega arith) ∙ cond_le {A = Push} most_dibits m.figures.taken _ _ h
 
 -- what a feed of one dibit gives, by the answer

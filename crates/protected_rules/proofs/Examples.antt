@@ -10,7 +10,7 @@ use Rattle.protected_rules.specs.Table.{count, index_of, odd_fits, even_fits, ea
 use Rattle.protected_rules.specs.StandIn.{stand_in}
 use Rattle.protected_rules.specs.Convolution.{parity_of, state_after, entry_bit, convolved}
 
--- the stand_in_lem table is admitted
+-- the stand-in table is admitted
 pub stand_in_admitted : admits stand_in ≡ true
 unfolding admits odd_fits even_fits each_once stand_in count
 stand_in_admitted = refl

@@ -1,4 +1,4 @@
--- Document 01's stand_in_lem table: "for t from 0 to 93, entry 2t is 255 if t is a multiple of 8, else the next unused number from 0 up; entry
+-- Document 01's stand-in table: "for t from 0 to 93, entry 2t is 255 if t is a multiple of 8, else the next unused number from 0 up; entry
 -- 2t+1 is the next unused number".
 -- Assumes nothing.
 use Rattle.std.specs.Prelude.{cond, List, [], ◌∷◌, ℕ, zero, suc, ◌+◌, ◌%◌, eqb}

@@ -70,7 +70,7 @@ pub record AdmissionMeaning : Type 0 where
   -- the test passes exactly the tables that the rules admit
   pub passes : (table : List ℕ) → Admitted table → admits table ≡ true
   pub rules : (table : List ℕ) → admits table ≡ true → Admitted table
-  -- the stand_in_lem table passes; each of these breaks one rule alone: an entry too many, 176 at an odd entry, 176 or 254 at an even one, 13 twice
+  -- the stand-in table passes; each of these breaks one rule alone: an entry too many, 176 at an odd entry, 176 or 254 at an even one, 13 twice
   pub stand_in_lem : admits stand_in ≡ true
   pub long : admits (stand_in ++ (255 ∷ [])) ≡ false
   pub odd : admits (set (set stand_in 0 0) 1 176) ≡ false

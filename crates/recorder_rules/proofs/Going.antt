@@ -18,7 +18,7 @@ use Rattle.sync_call_rules.specs.Calls.{Got}
 use Rattle.sync_call_rules.proofs.Feeding.{feed_rules_lem}
 use Rattle.sync_call_rules.proofs.Histories.{fed_fits}
 use Rattle.sync_call_rules.proofs.Shown.{shown_length}
-use Rattle.sync_inputs.specs.Answers.{answerBy, answer_to, takes}
+use Rattle.sync_inputs.specs.Answers.{answer_by, answer_to, takes}
 use Rattle.sync_inputs.specs.declared.Push.TheVariants.{Taken, Refused}
 use Rattle.sync_rules.specs.Pushes.{run}
 use Rattle.sync_rules.specs.Sizes.{room_size, most_dibits}
@@ -53,7 +53,7 @@ made_fits p s size xs r = go (ltb 0 (length gs)) refl
 -- ---- with a room, a dibit is refused at 2^40 dibits alone
 
 only_end : (x : Input) (m : State) (f : Refusal) → x.dibit < 4 → answer_to room_size x m ≡ Refused f → (f ≡ StreamEnd) × (most_dibits ≤ m.figures.taken)
-unfolding answer_to answerBy takes
+unfolding answer_to answer_by takes
 only_end x m f d e = go (ltb 3 x.dibit) (leb most_dibits m.figures.taken) (le-ltb 3 x.dibit (omega arith)) refl e
   where
     go : (a b : Bool) → a ≡ false → leb most_dibits m.figures.taken ≡ b → cond a (Refused Dibit) (cond (ltb room_size room_size) (Refused FrameRoom) (cond b (Refused StreamEnd) Taken)) ≡ Refused f → (f ≡ StreamEnd) × (most_dibits ≤ m.figures.taken)

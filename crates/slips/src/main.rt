@@ -6,18 +6,16 @@
 #![tactic(auto)]
 
 use channels::Desk;
-use std::{env, io};
 
-fn main(rt: HostRuntime) -> io::Result<()> {
+fn main(rt: HostRuntime) {
     let mut desk = Desk {
         out: rt.stdout(),
         errors: rt.stderr(),
         clock: rt,
     };
-    if env::args(&rt)?.len() > 1 {
+    if channels::has_argument(&rt, 1) {
         channels::usage(b"slips", &mut desk.errors);
-        return Ok(());
+        return;
     }
     task_lines::slips(&mut rt.stdin(), &mut desk);
-    Ok(())
 }

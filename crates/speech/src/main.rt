@@ -4,23 +4,20 @@
 
 #![tactic(auto)]
 
-use channels::Desk;
-use std::{env, io};
+use channels::{Desk, has_argument};
 
-fn main(rt: HostRuntime) -> io::Result<()> {
+fn main(rt: HostRuntime) {
     let mut desk = Desk {
         out: rt.stdout(),
         errors: rt.stderr(),
         clock: rt,
     };
-    let arguments: Vec<String> = env::args(&rt)?.collect(rt.alloc())?;
-    if arguments.len() != 2 {
+    if !has_argument(&rt, 1) || has_argument(&rt, 2) {
         channels::usage(b"speech TABLE", &mut desk.errors);
-        return Ok(());
+        return;
     }
     let mut table = [0u8; 188];
-    if table_file::from_argument(&arguments[1], &rt, &mut desk.errors, &mut table) {
+    if table_file::from_argument(1, &rt, &mut desk.errors, &mut table) {
         task_records::speak(&mut rt.stdin(), &table, &mut desk);
     }
-    Ok(())
 }

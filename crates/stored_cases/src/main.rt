@@ -85,8 +85,8 @@ fn run_on_file(letter: u8, words: &[String], i: usize, desk: &mut Table) -> usiz
 }
 
 // Reads the table that argument i names into lent memory. What is said of it goes to standard output.
-fn table_at(words: &[String], i: usize, table: &mut [u8], desk: &mut Table) -> bool {
-    table_file::from_argument(word(words, i), &desk.clock, &mut desk.out, table)
+fn table_at(i: usize, table: &mut [u8], desk: &mut Table) -> bool {
+    table_file::from_argument(i, &desk.clock, &mut desk.out, table)
 }
 
 // Runs record-with or speech on a table and a file, and gives how many arguments the case has.
@@ -98,7 +98,7 @@ fn run_with_table(letter: u8, words: &[String], i: usize, desk: &mut Table) -> u
     let mut file = opened(words, i + 1, desk);
     say(b"\n", desk);
     let mut table = [0u8; 188];
-    if table_at(words, i, &mut table, desk) {
+    if table_at(i, &mut table, desk) {
         if letter == b'r' {
             task_records::record_decoded(&mut file, &table, desk);
         } else {
@@ -118,7 +118,7 @@ fn run_merge(words: &[String], i: usize, desk: &mut Table) -> usize
     let mut alternate = opened(words, i + 2, desk);
     say(b"\n", desk);
     let mut table = [0u8; 188];
-    if table_at(words, i, &mut table, desk) {
+    if table_at(i, &mut table, desk) {
         task_merge::merge(&table, &mut primary, &mut alternate, desk);
     }
     4

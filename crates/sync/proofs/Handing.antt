@@ -9,7 +9,7 @@ use Rattle.sync.specs.declared.Pushed.{Pushed}
 use Rattle.sync.specs.declared.Fed.{Fed}
 use Rattle.sync.specs.declared.Synchroniser.{Synchroniser}
 use Rattle.sync.specs.View.{view, ValidSynchroniser}
-use Rattle.sync.specs.Answers.{PushedBy, handedOf}
+use Rattle.sync.specs.Answers.{PushedBy, handed_of}
 use Rattle.sync.specs.Feeds.{FedBy, fed_with}
 use Rattle.sync_rules.specs.State.{Input}
 use Rattle.sync_inputs.specs.declared.Push.{Push}
@@ -21,7 +21,7 @@ use Rattle.sync_numbers.specs.View.{Steady, Few, Rings}
 use Rattle.sync_frames.specs.Frames.{DrainedBy}
 use Rattle.sync_pushes.specs.Steps.{Brought, appended_to}
 use Rattle.sync_inputs.specs.Inputs.{input_of}
-use Rattle.sync_inputs.specs.Answers.{answerBy, answer_to, push_of, takes}
+use Rattle.sync_inputs.specs.Answers.{answer_by, answer_to, push_of, takes}
 use Rattle.sync_steps.specs.Feeds.{FedOut, FedInto}
 use Rattle.sync_pushes.proofs.Bringing.{new_bits, new_rels, brings}
 use Rattle.sync_steps.proofs.Answering.{PushedInto, taking}
@@ -32,7 +32,7 @@ module _ (s : Synchroniser) (v : ValidSynchroniser s) (long : length s.bits ≡ 
   lends = (v.steady, (v.few, record { long = long; as_long = as_long; binary = v.binary }))
 
   -- the two bits of a push that is taken
-  pub brings_in : (x : Given) (room : ℕ) (a : Push) (e : a ≡ answerBy room x.dibit s.numbers.figures.taken) (h : takes a ≡ 0 → ⊥) (bits reliabilities : List ℕ)
+  pub brings_in : (x : Given) (room : ℕ) (a : Push) (e : a ≡ answer_by room x.dibit s.numbers.figures.taken) (h : takes a ≡ 0 → ⊥) (bits reliabilities : List ℕ)
       → bits ≡ new_bits s.bits s.reliabilities s.numbers long as_long v.steady v.few.1 (taking room _ _ a e h).early (input_of x)
       → reliabilities ≡ new_rels s.bits s.reliabilities s.numbers long as_long v.steady v.few.1 (taking room _ _ a e h).early (input_of x)
       → (one : Numbers) → one ≡ appended_to s.numbers x.soft → Brought s.bits s.reliabilities bits reliabilities s.numbers (input_of x) one
@@ -56,7 +56,7 @@ same_parts s b r n p q t = make_same b s.bits r s.reliabilities n s.numbers p q 
 
 module _ (s : Synchroniser) (bits reliabilities room room' : List ℕ) (numbers : Numbers) (x : Input) (a : Push) (d : Drained) (i : PushedInto s.bits s.reliabilities bits reliabilities room room' s.numbers x a d) where
   abbrev with_numbers : Numbers → Pushed
-  with_numbers n = handedOf a d (record { bits = bits; reliabilities = reliabilities; numbers = n })
+  with_numbers n = handed_of a d (record { bits = bits; reliabilities = reliabilities; numbers = n })
 
   D : DrainedBy bits reliabilities room room' 0 3 (push_of (answer_to (length room) x (view s)) x (view s)) d.numbers d.count d.heads
   D = subst (λ (b : Push). DrainedBy bits reliabilities room room' 0 3 (push_of b x (view s)) d.numbers d.count d.heads) i.answer i.drained

@@ -10,7 +10,7 @@ use Rattle.sync_frames.specs.Frames.{heads_of}
 use Rattle.sync_rules.specs.State.{Input}
 use Rattle.sync_rules.specs.Room.{laid}
 -- passed on: the tests of a push in their order, and what a push does that is taken or refused
-unfoldable pub use Rattle.sync_inputs.specs.Answers.{answerBy, answer_to, push_of, takes}
+unfoldable pub use Rattle.sync_inputs.specs.Answers.{answer_by, answer_to, push_of, takes}
 
 -- the answer r to the push x on the synchroniser s, and the room's bytes before and after
 pub record PushedBy (room room' : List ℕ) (s : Synchroniser) (x : Input) (r : Pushed) : Type 0 where
@@ -24,5 +24,5 @@ pub record PushedBy (room room' : List ℕ) (s : Synchroniser) (x : Input) (r : 
   pub kept : takes r.answer ≡ 0 → r.next ≡ s
 
 -- an answer, the frames d and the next synchroniser, handed back
-abbrev pub handedOf : Push → Drained → Synchroniser → Pushed
-handedOf a d s = record { answer = a; count = d.count; heads = d.heads; next = s }
+abbrev pub handed_of : Push → Drained → Synchroniser → Pushed
+handed_of a d s = record { answer = a; count = d.count; heads = d.heads; next = s }

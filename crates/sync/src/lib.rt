@@ -7,7 +7,7 @@
 ghost use Rattle.std.specs.Prelude.{◌≡◌, true, false, length, drop};
 ghost use Rattle.sync.specs.View.{ValidSynchroniser, view};
 ghost use Rattle.sync_inputs.specs.Inputs.{input_of};
-ghost use Rattle.sync.specs.Answers.{PushedBy, handedOf};
+ghost use Rattle.sync.specs.Answers.{PushedBy, handed_of};
 ghost use Rattle.sync.specs.Feeds.{FedBy, fed_of, hardly, softly, unpacked, fed_with};
 ghost use Rattle.sync_rules.specs.State.{start, hard, pending, slips, net_slip, stream_end};
 ghost use Rattle.sync_rules.specs.Pushes.{quiet};
@@ -268,7 +268,7 @@ fn feed_answer(bits: [u8; MOST_HELD], reliabilities: [u8; MOST_HELD], d: Into) -
 
 // Puts together what a push hands back: its answer, its frames and the next synchroniser.
 fn handed(answer: Push, d: Drained, next: Synchroniser) -> Pushed
-    ensures { result ≡ handedOf answer d next }
+    ensures { result ≡ handed_of answer d next }
 {
     let heads = d.heads;
     Pushed {

@@ -26,8 +26,8 @@ use Rattle.sync_rules.specs.State.{State, Input, start, hard, pending, bring}
 use Rattle.sync_rules.specs.Frames.{Frame}
 use Rattle.sync_rules.specs.Pushes.{Out, search, drain, step, run}
 use Rattle.sync_rules.specs.Room.{bytes_of, laid}
-use Rattle.sync_rules.specs.Demand.{stream, FirstLock, Begins, Loses, place_of, sent_by, last_offset, first_offset, Figures, figures, in_aRow, Demand3}
-use Rattle.sync_call_rules.specs.Calls.{Call, pushing, feeding, answer_of, left_by, Meets, made, made_by, History, state_of, accepted, Got, slots, handed, shown_as, place_in, BeginsAt, last_got, first_got, got_in_aRow}
+use Rattle.sync_rules.specs.Demand.{stream, FirstLock, Begins, Loses, place_of, sent_by, last_offset, first_offset, Figures, figures, in_a_row, Demand3}
+use Rattle.sync_call_rules.specs.Calls.{Call, pushing, feeding, answer_of, left_by, Meets, made, made_by, History, state_of, accepted, Got, slots, handed, shown_as, place_in, BeginsAt, last_got, first_got, got_in_a_row}
 use Rattle.sync_call_rules.specs.Statements.{Follows, calls_follow, demand_calls}
 use Rattle.sync_numbers.proofs.Pendings.{pending_is}
 use Rattle.sync_rules.proofs.Hunts.{run_next, run_sent}
@@ -227,12 +227,12 @@ take_gots zero fs = refl
 take_gots (suc k) [] = refl
 take_gots (suc k) (f ∷ fs) = ap (λ (l : List Got). record { head = record { offset = f.offset; matched = f.matched; errors = f.errors; moves = f.moves }; envelope = bytes_of 48 f.bits } ∷ l) (take_gots k fs)
 
-row_is : (s : List ℕ) (q o k : ℕ) → to_gots (in_aRow s q o k) ≡ got_in_aRow s q o k
-unfolding to_gots in_aRow got_in_aRow
+row_is : (s : List ℕ) (q o k : ℕ) → to_gots (in_a_row s q o k) ≡ got_in_a_row s q o k
+unfolding to_gots in_a_row got_in_a_row
 row_is s q o zero = refl
 row_is s q o (suc k) = ap (λ (l : List Got). record { head = record { offset = o; matched = true; errors = errors s q 0 + errors s (q + 128) 1 + errors s (q + 256) 2; moves = no_moves }; envelope = bytes_of 48 (take 384 (drop q s)) } ∷ l) (row_is s (q + 384) (o + 384) k)
 
-shown_figures : (s : List ℕ) (q o k : ℕ) (fs : List Frame) → take k (figures fs) ≡ in_aRow s q o k → take k (shown_as fs) ≡ got_in_aRow s q o k
+shown_figures : (s : List ℕ) (q o k : ℕ) (fs : List Frame) → take k (figures fs) ≡ in_a_row s q o k → take k (shown_as fs) ≡ got_in_a_row s q o k
 shown_figures s q o k fs e = ap (take k) (shown_is fs) ∙ take_gots k (figures fs) ∙ ap to_gots e ∙ row_is s q o k
 
 last_shown : (d : ℕ) (fs : List Frame) → last_got d (shown_as fs) ≡ last_offset d fs
@@ -249,7 +249,7 @@ first_shown (f ∷ fs) p q = ap (λ (n : ℕ). n + 384 + (q - p)) (last_shown f.
 record Shape (I : List Input) (P : ℕ) (F G : List Got) : Type 0 where
   early : (later : List Input) (q : ℕ) → FirstLock (stream (I ++ later)) P q → length (stream I) ≤ q + 1151 → G ≡ []
   never : ((i : ℕ) → P ≤ i → i + 1152 ≤ length (stream I) → locks_at (stream I) i ≡ false) → G ≡ []
-  exact : (q k : ℕ) → FirstLock (stream I) P q → q + 384 * k ≤ length (stream I) → ((j : ℕ) → j < k → in_place (stream I) (q + 384 * j) ≡ true) → take k G ≡ got_in_aRow (stream I) q (first_got F P q) k
+  exact : (q k : ℕ) → FirstLock (stream I) P q → q + 384 * k ≤ length (stream I) → ((j : ℕ) → j < k → in_place (stream I) (q + 384 * j) ≡ true) → take k G ≡ got_in_a_row (stream I) q (first_got F P q) k
 
 none_shown_lem : shown_as [] ≡ []
 unfolding shown_as
@@ -260,7 +260,7 @@ shaped A B d =
     record {
       early = λ later q f l. ap shown_as (d.early later q f l) ∙ none_shown_lem;
       never = λ w. ap shown_as (d.never w) ∙ none_shown_lem;
-      exact = λ q k f l row. shown_figures (stream (A ++ B)) q (first_offset (sent_by [] A) (place_of A) q) k (sent_by A B) (d.exact q k f l row) ∙ ap (λ (o : ℕ). got_in_aRow (stream (A ++ B)) q o k) (sym (first_shown (sent_by [] A) (place_of A) q));
+      exact = λ q k f l row. shown_figures (stream (A ++ B)) q (first_offset (sent_by [] A) (place_of A) q) k (sent_by A B) (d.exact q k f l row) ∙ ap (λ (o : ℕ). got_in_a_row (stream (A ++ B)) q o k) (sym (first_shown (sent_by [] A) (place_of A) q));
     }
 
 -- a push that sends a frame and ends with no lock has ended a lock

@@ -139,7 +139,7 @@ first_got [] p q = q
 first_got (g ∷ gs) p q = last_got g.head.offset gs + 384 + (q - p)
 
 -- k frames in a row, from place q of the stream on, none with a move
-unfoldable pub got_in_aRow : List ℕ → ℕ → ℕ → ℕ → List Got
+unfoldable pub got_in_a_row : List ℕ → ℕ → ℕ → ℕ → List Got
 unfolding errors
-got_in_aRow s q o zero = []
-got_in_aRow s q o (suc k) = record { head = record { offset = o; matched = true; errors = errors s q 0 + errors s (q + 128) 1 + errors s (q + 256) 2; moves = no_moves }; envelope = envelope_of (take 384 (drop q s)) } ∷ got_in_aRow s (q + 384) (o + 384) k
+got_in_a_row s q o zero = []
+got_in_a_row s q o (suc k) = record { head = record { offset = o; matched = true; errors = errors s q 0 + errors s (q + 128) 1 + errors s (q + 256) 2; moves = no_moves }; envelope = envelope_of (take 384 (drop q s)) } ∷ got_in_a_row s (q + 384) (o + 384) k

@@ -3,7 +3,7 @@
 use Rattle.std.specs.Prelude.{◌≡◌, List, [], ◌∷◌, ◌++◌, true, false, ℕ, ◌+◌, ◌*◌, ◌≤◌, ◌<◌, ◌^◌, pos, ◌+ℤ◌, length, take}
 use Rattle.sync.specs.declared.Synchroniser.{Synchroniser}
 use Rattle.sync.specs.View.{ValidSynchroniser, view}
-use Rattle.sync_call_rules.specs.Calls.{Call, History, state_of, accepted, Got, handed, shown_as, handed_whole, whole_as, stream_of, place_in, BeginsAt, first_got, got_in_aRow}
+use Rattle.sync_call_rules.specs.Calls.{Call, History, state_of, accepted, Got, handed, shown_as, handed_whole, whole_as, stream_of, place_in, BeginsAt, first_got, got_in_a_row}
 use Rattle.sync_rules.specs.Matching.{locks_at, in_place}
 use Rattle.sync_rules.specs.State.{Input, start, net_slip, stream_end}
 use Rattle.sync_rules.specs.Pushes.{run, quiet}
@@ -30,7 +30,7 @@ pub record DemandCalls (s : Synchroniser) (before after : List Call) : Type 0 wh
   pub exact : (q k : ℕ) → FirstLock (stream_of (before ++ after)) (place_in s before) q
       → q + 384 * k ≤ length (stream_of (before ++ after))
       → ((j : ℕ) → j < k → in_place (stream_of (before ++ after)) (q + 384 * j) ≡ true)
-      → take k (handed after) ≡ got_in_aRow (stream_of (before ++ after)) q (first_got (handed before) (place_in s before) q) k
+      → take k (handed after) ≡ got_in_a_row (stream_of (before ++ after)) q (first_got (handed before) (place_in s before) q) k
 
 -- s is what `new` hands out
 abbrev pub demand_calls : Type 0

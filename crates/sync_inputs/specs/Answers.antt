@@ -9,16 +9,16 @@ use Rattle.sync_rules.specs.State.{State, Input}
 use Rattle.sync_rules.specs.Pushes.{Out, step}
 
 -- "pushes test 1, 2, 3": a dibit above 3, a room below 1,296 bytes, 2^40 dibits already taken
-unfoldable pub answerBy : (room dibit taken : ℕ) → Push
-answerBy room dibit taken =
+unfoldable pub answer_by : (room dibit taken : ℕ) → Push
+answer_by room dibit taken =
     cond (ltb 3 dibit) (Refused Dibit)
     (cond (ltb room room_size) (Refused FrameRoom)
     (cond (leb most_dibits taken) (Refused StreamEnd) Taken))
 
 -- of the push x on the state m
 unfoldable pub answer_to : ℕ → Input → State → Push
-unfolding answerBy
-answer_to room x m = answerBy room x.dibit m.figures.taken
+unfolding answer_by
+answer_to room x m = answer_by room x.dibit m.figures.taken
 
 -- what the push x then does to the state m: "A refused call returns only the number and writes nowhere"
 unfoldable pub push_of : Push → Input → State → Out

@@ -5,7 +5,7 @@
 
 ghost use Rattle.std.specs.Prelude.{◌≡◌, [], ◌∷◌, ◌<◌, ◌≤◌, get_or, take, drop};
 ghost use Rattle.sync_rules.specs.Sizes.{most_dibits};
-ghost use Rattle.sync_inputs.specs.Answers.{answerBy, takes};
+ghost use Rattle.sync_inputs.specs.Answers.{answer_by, takes};
 ghost use Rattle.sync_inputs.specs.Inputs.{hard_given, soft_given, GivenBy, hardly, softly, unpacked, inputs_of, none_given};
 
 use bits::Refusal;
@@ -20,7 +20,7 @@ pub enum Push {
 
 // Answers a push: makes tests 1, 2 and 3 in this order.
 pub fn answer_to(taken: u64, dibit: u8, room: usize) -> Push
-    ensures { result ≡ answerBy room dibit taken }
+    ensures { result ≡ answer_by room dibit taken }
 {
     if 3 < dibit {
         return Push::Refused(Refusal::Dibit);

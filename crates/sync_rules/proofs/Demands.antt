@@ -14,7 +14,7 @@ use Rattle.sync_rules.specs.Moves.{Stay, no_moves}
 use Rattle.sync_rules.specs.State.{State, Input, start, bring}
 use Rattle.sync_rules.specs.Frames.{Frame, Sent, send_at, send, ready}
 use Rattle.sync_rules.specs.Pushes.{Out, search, drain, step, run}
-use Rattle.sync_rules.specs.Demand.{stream, Loses, Begins, place_of, last_offset, first_offset, Figures, figures, in_aRow, sent_by, Demand3, demand3}
+use Rattle.sync_rules.specs.Demand.{stream, Loses, Begins, place_of, last_offset, first_offset, Figures, figures, in_a_row, sent_by, Demand3, demand3}
 use Rattle.bits.proofs.Conds.{cond_cases}
 use Rattle.bits.proofs.Tests.{cond_yes, cond_no}
 use Rattle.sync_rules.proofs.Windows.{same_locks, seen}
@@ -58,14 +58,14 @@ row_rest S a k row j h = subst (λ (n : ℕ). in_place S n ≡ true) (z a j) (ro
 
 -- what follows, in the frames B that come later, once a drain has sent what it could
 abbrev Later : List ℕ → List ℕ → List Figures → State → Type 0
-Later H S B m = (i a c : ℕ) → Riding H m a c → length H < a + 384 → Row S a i → a + 384 * i ≤ length S → take i B ≡ in_aRow S a c i
+Later H S B m = (i a c : ℕ) → Riding H m a c → length H < a + 384 → Row S a i → a + 384 * i ≤ length S → take i B ≡ in_a_row S a c i
 
 abbrev Ends : List ℕ → List ℕ → List Figures → ℕ → ℕ → ℕ → Out → Type 0
-Ends H S B a c k o = Later H S B o.next → take k (figures o.sent ++ B) ≡ in_aRow S a c k
+Ends H S B a c k o = Later H S B o.next → take k (figures o.sent ++ B) ≡ in_a_row S a c k
 
 drained : (n k : ℕ) (H X : List ℕ) (m : State) (a c : ℕ) (B : List Figures) → Riding H m a c → length H < a + 384 * suc n → Row (H ++ X) a k → a + 384 * k ≤ length (H ++ X)
-    → Later H (H ++ X) B (drain n m).next → take k (figures (drain n m).sent ++ B) ≡ in_aRow (H ++ X) a c k
-unfolding drain figures in_aRow
+    → Later H (H ++ X) B (drain n m).next → take k (figures (drain n m).sent ++ B) ≡ in_a_row (H ++ X) a c k
+unfolding drain figures in_a_row
 drained n zero H X m a c B r h row fits later = refl
 drained zero (suc k) H X m a c B r h row fits later = later (suc k) a c r (omega arith) row fits
 drained (suc n) (suc k) H X m a c B r h row fits later =
@@ -74,7 +74,7 @@ drained (suc n) (suc k) H X m a c B r h row fits later =
     later
   where
     way : (b : Bool) → leb (a + 384) (length H) ≡ b
-        → (a + 384 ≤ length H → Later H (H ++ X) B (drain n (send_at Stay m 128 256).next).next → take k (figures (drain n (send_at Stay m 128 256).next).sent ++ B) ≡ in_aRow (H ++ X) (a + 384) (c + 384) k)
+        → (a + 384 ≤ length H → Later H (H ++ X) B (drain n (send_at Stay m 128 256).next).next → take k (figures (drain n (send_at Stay m 128 256).next).sent ++ B) ≡ in_a_row (H ++ X) (a + 384) (c + 384) k)
         → Ends H (H ++ X) B a c (suc k) (drain (suc n) m)
     way true e go =
         let en = leb-true (a + 384) (length H) e in
@@ -88,7 +88,7 @@ drained (suc n) (suc k) H X m a c B r h row fits later =
 -- ---- pushes in lock, and pushes that search
 after_lock : (xs : List Input) (H : List ℕ) (m : State) (a c k : ℕ) → Riding H m a c → length H < a + 384 * 4 → Row (H ++ stream xs) a k → a + 384 * k ≤ length (H ++ stream xs)
     → Later H (H ++ stream xs) (figures (run xs (drain 3 m).next).sent) (drain 3 m).next
-    → take k (figures ((drain 3 m).sent ++ (run xs (drain 3 m).next).sent)) ≡ in_aRow (H ++ stream xs) a c k
+    → take k (figures ((drain 3 m).sent ++ (run xs (drain 3 m).next).sent)) ≡ in_a_row (H ++ stream xs) a c k
 after_lock xs H m a c k r h row fits later =
     ap (take k) (figures_append (drain 3 m).sent (run xs (drain 3 m).next).sent)
     ∙ drained 3 k H (stream xs) m a c (figures (run xs (drain 3 m).next).sent) r h row fits later
@@ -103,10 +103,10 @@ rides_more H x m a c r = subst (λ (z : State). Riding (H ++ two x) z a c) (sym 
 
 -- the k frames in a row are the first of what goes out
 abbrev Out_now : List Frame → ℕ → ℕ → ℕ → List ℕ → Type 0
-Out_now fs a c k S = Row S a k → a + 384 * k ≤ length S → take k (figures fs) ≡ in_aRow S a c k
+Out_now fs a c k S = Row S a k → a + 384 * k ≤ length S → take k (figures fs) ≡ in_a_row S a c k
 
 ride_run : (xs : List Input) (H : List ℕ) (m : State) (a c k : ℕ) → Riding H m a c → length H < a + 384 → Out_now (run xs m).sent a c k (H ++ stream xs)
-unfolding run step stream in_aRow
+unfolding run step stream in_a_row
 ride_run [] H m a c zero r h = λ row fits. refl
 ride_run [] H m a c (suc k) r h = λ row fits. absurd (omega (arith, length-append H []))
 ride_run (x ∷ xs) H m a c k r h =
@@ -268,7 +268,7 @@ module _ (before : List Input) (b : Begun before) where
         never = λ none. let l = place_low in
             let n : length (stream (before ++ after)) ≡ length (stream before) + length (stream after) = ap length (stream_append before after) ∙ length-append (stream before) (stream after) in
             quiet after (length (stream (before ++ after))) (omega arith) (λ i a l arrived. none i a arrived) (omega arith);
-        exact = λ q k f fits row. comes after q k f.after (λ i a l arrived. f.none i a l) f.here f.arrived row fits ∙ ap (λ (o : ℕ). in_aRow (stream (before ++ after)) q o k) (sym (b.offset q));
+        exact = λ q k f fits row. comes after q k f.after (λ i a l arrived. f.none i a l) f.here f.arrived row fits ∙ ap (λ (o : ℕ). in_a_row (stream (before ++ after)) q o k) (sym (b.offset q));
       }
     where
       earlier : (later : List Input) (i : ℕ) → i + 1152 ≤ length (stream (before ++ after)) → locks_at (stream (before ++ after)) i ≡ locks_at (stream ((before ++ after) ++ later)) i

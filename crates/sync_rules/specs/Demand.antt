@@ -68,10 +68,10 @@ figures [] = []
 figures (f ∷ fs) = record { offset = f.offset; matched = f.matched; errors = f.errors; moves = f.moves; bits = f.bits } ∷ figures fs
 
 -- k frames in a row, the first with offset o and the 384 bits from place q on, each later one 384 further in both; none has a move
-unfoldable pub in_aRow : List ℕ → ℕ → ℕ → ℕ → List Figures
+unfoldable pub in_a_row : List ℕ → ℕ → ℕ → ℕ → List Figures
 unfolding errors
-in_aRow s q o zero = []
-in_aRow s q o (suc k) = record { offset = o; matched = true; errors = errors s q 0 + errors s (q + 128) 1 + errors s (q + 256) 2; moves = no_moves; bits = take 384 (drop q s) } ∷ in_aRow s (q + 384) (o + 384) k
+in_a_row s q o zero = []
+in_a_row s q o (suc k) = record { offset = o; matched = true; errors = errors s q 0 + errors s (q + 128) 1 + errors s (q + 256) 2; moves = no_moves; bits = take 384 (drop q s) } ∷ in_a_row s (q + 384) (o + 384) k
 
 -- the frames that the pushes `after` send when `before` was pushed
 unfoldable pub sent_by : List Input → List Input → List Frame
@@ -90,7 +90,7 @@ pub record Demand3 (before after : List Input) : Type 0 where
   pub exact : (q k : ℕ) → FirstLock (stream (before ++ after)) (place_of before) q
       → q + 384 * k ≤ length (stream (before ++ after))
       → ((j : ℕ) → j < k → in_place (stream (before ++ after)) (q + 384 * j) ≡ true)
-      → take k (figures (sent_by before after)) ≡ in_aRow (stream (before ++ after)) q (first_offset (sent_by [] before) (place_of before) q) k
+      → take k (figures (sent_by before after)) ≡ in_a_row (stream (before ++ after)) q (first_offset (sent_by [] before) (place_of before) q) k
 
 abbrev pub demand3 : Type 0
 demand3 = (before after : List Input) → Begins before → Demand3 before after

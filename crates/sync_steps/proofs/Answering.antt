@@ -17,7 +17,7 @@ use Rattle.sync_numbers.specs.View.{view_of, Steady, Few, Rings}
 use Rattle.sync_frames.specs.Frames.{DrainedBy, nothing_of}
 use Rattle.sync_pushes.specs.Steps.{Brought}
 use Rattle.sync_steps.specs.Steps.{SentAfter}
-use Rattle.sync_inputs.specs.Answers.{answerBy, answer_to, push_of, takes}
+use Rattle.sync_inputs.specs.Answers.{answer_by, answer_to, push_of, takes}
 use Rattle.sync_rules.specs.State.{State, Input}
 use Rattle.sync_rules.specs.Pushes.{Out, step}
 use Rattle.sync_rules.specs.Room.{laid}
@@ -32,25 +32,25 @@ pub record Taking (room dibit taken : ℕ) : Type 0 where
 made_none : (a b : Push) → a ≡ b → takes a ≡ 0 → takes b ≡ 0
 made_none a b e z = sym (ap takes e) ∙ z
 
-module _ (room dibit taken : ℕ) (made : takes (answerBy room dibit taken) ≡ 0 → ⊥) where
+module _ (room dibit taken : ℕ) (made : takes (answer_by room dibit taken) ≡ 0 → ⊥) where
   good : (b : Bool) → ltb 3 dibit ≡ b → dibit ≤ 3
-  unfolding answerBy takes
+  unfolding answer_by takes
   good true e = absurd (made (ap takes (cond_lt 3 dibit _ _ (ltb-true 3 dibit e))))
   good false e = ltb-false 3 dibit e
 
   fits : (b : Bool) → ltb room 1296 ≡ b → 1296 ≤ room
-  unfolding answerBy takes
+  unfolding answer_by takes
   fits true e = absurd (made (ap takes (cond_ge 3 dibit _ _ (good (ltb 3 dibit) refl) ∙ cond_lt room 1296 _ _ (ltb-true room 1296 e))))
   fits false e = ltb-false room 1296 e
 
   early : (b : Bool) → leb (2 ^ 40) taken ≡ b → taken < 2 ^ 40
-  unfolding answerBy takes
+  unfolding answer_by takes
   early true e = absurd (made (ap takes (cond_ge 3 dibit _ _ (good (ltb 3 dibit) refl) ∙ cond_ge room 1296 _ _ (fits (ltb room 1296) refl) ∙ cond_le (2 ^ 40) taken _ _ (leb-true (2 ^ 40) taken e))))
   early false e = leb-false (2 ^ 40) taken e
 
-pub taking : (room dibit taken : ℕ) (a : Push) → a ≡ answerBy room dibit taken → (takes a ≡ 0 → ⊥) → Taking room dibit taken
+pub taking : (room dibit taken : ℕ) (a : Push) → a ≡ answer_by room dibit taken → (takes a ≡ 0 → ⊥) → Taking room dibit taken
 taking room dibit taken a e h =
-    let m : takes (answerBy room dibit taken) ≡ 0 → ⊥ = λ z. h (made_none (answerBy room dibit taken) a (sym e) z) in
+    let m : takes (answer_by room dibit taken) ≡ 0 → ⊥ = λ z. h (made_none (answer_by room dibit taken) a (sym e) z) in
     record { good = good room dibit taken m (ltb 3 dibit) refl; fits = fits room dibit taken m (ltb room 1296) refl; early = early room dibit taken m (leb (2 ^ 40) taken) refl }
 
 pub is_taken : (a : Push) → (takes a ≡ 0 → ⊥) → a ≡ Taken
@@ -66,7 +66,7 @@ pub record PushedInto (bits reliabilities bits' reliabilities' room room' : List
   -- a refused push leaves the rings and the numbers as they were
   pub kept : takes a ≡ 0 → (bits' ≡ bits) × (reliabilities' ≡ reliabilities) × (d.numbers ≡ k)
 
-module _ (bits reliabilities room : List ℕ) (k : Numbers) (x : Input) (a : Push) (e : a ≡ answerBy (length room) x.dibit k.figures.taken) where
+module _ (bits reliabilities room : List ℕ) (k : Numbers) (x : Input) (a : Push) (e : a ≡ answer_by (length room) x.dibit k.figures.taken) where
   abbrev M : State
   M = view_of bits reliabilities k
 

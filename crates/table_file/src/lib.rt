@@ -6,9 +6,8 @@
 ghost use Rattle.std.specs.Prelude.{◌≡◌, true, false};
 ghost use Rattle.protected_rules.specs.Table.{Admitted};
 
-use std::fs;
 use std::io::{Read, Write};
-use std::rt::{Clock, Files};
+use std::rt::{Clock, Env, Files};
 
 // Writes `refused 4` and the file's name to `errors`, and gives a no.
 fn refuse<E: Write, C: Clock>(name: &[u8], errors: &mut E, clock: &C) -> bool
@@ -39,22 +38,16 @@ fn read_whole<R: Read, C: Clock>(from: &mut R, table: &mut [u8], clock: &C) -> b
     rest.bytes == 0
 }
 
-// Opens the file of that name and reads it into the lent table, and tells whether it holds exactly as many bytes.
-fn filled<F: Files + Clock>(name: &str, rt: &F, table: &mut [u8]) -> bool {
-    match fs::open(rt, name) {
+// Reads the file of that name into the lent table, and tells whether it holds exactly as many bytes.
+fn filled<F: Files + Clock>(name: &[u8], rt: &F, table: &mut [u8]) -> bool {
+    match channels::file_of(rt, name) {
         Ok(mut file) => read_whole(&mut file, table, rt),
         Err(_) => false,
     }
 }
 
-// Reads the table from the file that an argument names into the lent table of 188 bytes. Says yes only where what is left there is admitted; it refuses any
-// other.
-pub fn from_argument<F: Files + Clock, E: Write>(
-    name: &str,
-    rt: &F,
-    errors: &mut E,
-    table: &mut [u8],
-) -> bool
+// Reads the table from the file of that name and says yes only where what is left in the lent table is admitted; it refuses any other.
+fn read<F: Files + Clock, E: Write>(name: &[u8], rt: &F, errors: &mut E, table: &mut [u8]) -> bool
     ensures { result ≡ true → Admitted table.new }
 {
     if filled(name, rt, &mut *table) {
@@ -62,5 +55,21 @@ pub fn from_argument<F: Files + Clock, E: Write>(
             return true;
         }
     }
-    refuse(name.as_bytes(), errors, rt)
+    refuse(name, errors, rt)
+}
+
+// Reads the table from the file that argument i names into the lent table of 188 bytes. Says yes only where what is left there is admitted.
+pub fn from_argument<F: Files + Clock + Env, E: Write>(
+    i: usize,
+    rt: &F,
+    errors: &mut E,
+    table: &mut [u8],
+) -> bool
+    ensures { result ≡ true → Admitted table.new }
+{
+    let mut name = io::buffer();
+    match channels::argument(rt, i, &mut name) {
+        Some(n) => read(&name[..n], rt, errors, table),
+        None => read(b"", rt, errors, table),
+    }
 }

@@ -32,7 +32,7 @@ use Rattle.voice_rules.specs.Calls.{answered, refused_by, decode_answer}
 use Rattle.voice_rules.specs.Candidate.{bits_apart, low_flag, candidate_tests, trial, repair_tests}
 use Rattle.voice_rules.specs.Hard.{corrected_bits, hard_trial, hard_trials, trials_by, succeeds, plain_trial, repair_trial, joint_tests, joint_trial, mended, decoded_word}
 use Rattle.voice_rules.specs.Trial.{Outcome, heard, silent, speech, verdict}
-use Rattle.voice_rules.proofs.Answers.{length-descrambled, descrambled-bytes}
+use Rattle.voice_rules.proofs.Answers.{length_descrambled, descrambled_bytes}
 use Rattle.voice_rules.proofs.Distances.{ones_self, bits_self, cut}
 use Rattle.voice_rules.proofs.Judging.{trial_passed, Each, of_answer}
 use Rattle.voice_corrected_rules.specs.Statements.{FewCorrected}
@@ -148,7 +148,7 @@ unfolding decode_answer
 corrects table envelope = go (eqb (length envelope) 48) (admits table)
   where
     go : (a b : Bool) → Corrects (cond a (cond b (answered (decoded_word table (descrambled envelope))) (refused_by Table)) (refused_by Size)).decoding
-    go true true = outcome_few table (descrambled envelope) (length-descrambled envelope) (descrambled-bytes envelope) (decoded_word table (descrambled envelope)) refl
+    go true true = outcome_few table (descrambled envelope) (length_descrambled envelope) (descrambled_bytes envelope) (decoded_word table (descrambled envelope)) refl
     go true false = tt
     go false b = tt
 

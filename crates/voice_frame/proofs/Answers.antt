@@ -17,38 +17,38 @@ use Rattle.voice_rules.specs.Encoded.{encoded_word}
 
 module _ (table payload envelope : List ℕ) (alternate : Bool) where
   module _ (e : encode_sized payload envelope ≡ false) where
-    pub size-answer : writing.Refused Size ≡ encode_answer table payload envelope
+    pub size_answer_lem : writing.Refused Size ≡ encode_answer table payload envelope
     unfolding encode_answer
-    size-answer = rw e refl
+    size_answer_lem = rw e refl
 
-    pub size-leaves : envelope ≡ encode_leaves table payload alternate envelope
+    pub size_leaves : envelope ≡ encode_leaves table payload alternate envelope
     unfolding encode_leaves
-    size-leaves = rw e refl
+    size_leaves = rw e refl
 
-  pub short-payload : (length payload ≡ 20 → ⊥) → encode_sized payload envelope ≡ false
-  short-payload h = ap (λ (t : Bool). t && eqb (length envelope) 48) (ne_eqb (length payload) 20 h)
+  pub short_payload : (length payload ≡ 20 → ⊥) → encode_sized payload envelope ≡ false
+  short_payload h = ap (λ (t : Bool). t && eqb (length envelope) 48) (ne_eqb (length payload) 20 h)
 
   module _ (p : length payload ≡ 20) where
-    pub short-envelope : (length envelope ≡ 48 → ⊥) → encode_sized payload envelope ≡ false
-    short-envelope h = simp (eq-eqb (length payload) 20 p, ne_eqb (length envelope) 48 h)
+    pub short_envelope : (length envelope ≡ 48 → ⊥) → encode_sized payload envelope ≡ false
+    short_envelope h = simp (eq-eqb (length payload) 20 p, ne_eqb (length envelope) 48 h)
 
     module _ (q : length envelope ≡ 48) where
       module _ (a : admits table ≡ false) where
-        pub table-answer : writing.Refused Table ≡ encode_answer table payload envelope
+        pub table_answer : writing.Refused Table ≡ encode_answer table payload envelope
         unfolding encode_answer
-        table-answer = simp (eq-eqb (length payload) 20 p, eq-eqb (length envelope) 48 q, a)
+        table_answer = simp (eq-eqb (length payload) 20 p, eq-eqb (length envelope) 48 q, a)
 
-        pub table-leaves : envelope ≡ encode_leaves table payload alternate envelope
+        pub table_leaves : envelope ≡ encode_leaves table payload alternate envelope
         unfolding encode_leaves
-        table-leaves = simp (eq-eqb (length payload) 20 p, eq-eqb (length envelope) 48 q, a)
+        table_leaves = simp (eq-eqb (length payload) 20 p, eq-eqb (length envelope) 48 q, a)
 
       module _ (a : admits table ≡ true) (word : List ℕ) (w : word ≡ encoded_word table payload (cond alternate 1 0)) (l : length word ≡ 42) where
-        pub made-answer : size_answer envelope word ≡ encode_answer table payload envelope
+        pub made_answer : size_answer envelope word ≡ encode_answer table payload envelope
         unfolding size_answer encode_answer
-        made-answer = simp (eq-eqb (length payload) 20 p, eq-eqb (length envelope) 48 q, eq-eqb (length word) 42 l, a)
+        made_answer = simp (eq-eqb (length payload) 20 p, eq-eqb (length envelope) 48 q, eq-eqb (length word) 42 l, a)
 
-        pub made-leaves : after_scramble word envelope ≡ encode_leaves table payload alternate envelope
+        pub made_leaves : after_scramble word envelope ≡ encode_leaves table payload alternate envelope
         unfolding after_scramble encode_leaves
-        made-leaves =
+        made_leaves =
             let e : after_scramble word envelope ≡ scrambled word = simp (eq-eqb (length envelope) 48 q, eq-eqb (length word) 42 l) in
             e ∙ ap scrambled w ∙ simp (eq-eqb (length payload) 20 p, eq-eqb (length envelope) 48 q, a)

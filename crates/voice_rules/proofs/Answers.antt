@@ -37,17 +37,17 @@ use Rattle.voice_rules.proofs.ExactDistance.{heard_encodes}
 
 -- ---- envelopes and words
 
-length-scrambled : (w : List ℕ) → length (scrambled w) ≡ 48
+length_scrambled : (w : List ℕ) → length (scrambled w) ≡ 48
 unfolding scrambled
-length-scrambled w = length_tab 48 (envelope_byte w)
+length_scrambled w = length_tab 48 (envelope_byte w)
 
-pub length-descrambled : (e : List ℕ) → length (descrambled e) ≡ 42
+pub length_descrambled : (e : List ℕ) → length (descrambled e) ≡ 42
 unfolding descrambled
-length-descrambled e = length_tab 42 (λ k. number 8 (λ j. word_bit e (8 * k + j)))
+length_descrambled e = length_tab 42 (λ k. number 8 (λ j. word_bit e (8 * k + j)))
 
-pub descrambled-bytes : (e : List ℕ) → Bytes (descrambled e)
+pub descrambled_bytes : (e : List ℕ) → Bytes (descrambled e)
 unfolding descrambled
-descrambled-bytes e =
+descrambled_bytes e =
     below_tab 42 (λ k. number 8 (λ j. word_bit e (8 * k + j))) (lit< tt) (λ k h.
     number_lt 8 (λ j. word_bit e (8 * k + j)) (λ j l.
     xor_lt 1 (bit_hi e (place (8 * k + j))) (s (8 * k + j)) (digit_lt (get_or e (place (8 * k + j) / 8) 0) (7 - place (8 * k + j) % 8)) (s_lt (8 * k + j))))
@@ -59,62 +59,62 @@ flag_small a = cond_both (λ (v : ℕ). v < 2) a 1 0 (lit< tt) (lit< tt)
 
 module _ (table : List ℕ) (t : Admitted table) where
   -- an admitted table and an envelope of 48 bytes: what is heard is answered
-  decoded-is : (e : List ℕ) → length e ≡ 48 → (f : List ℕ → Outcome) → decoded_by table e f ≡ answered (f (descrambled e))
-  decoded-is e h f = simp (eq-eqb (length e) 48 h, admitted_admits table t)
+  decoded_is : (e : List ℕ) → length e ≡ 48 → (f : List ℕ → Outcome) → decoded_by table e f ≡ answered (f (descrambled e))
+  decoded_is e h f = simp (eq-eqb (length e) 48 h, admitted_admits table t)
 
   module _ (p : List ℕ) (q : Payload p) (a : Bool) (e : List ℕ) (h : length e ≡ 48) where
-    leaves-is : encode_leaves table p a e ≡ scrambled (encoded_word table p (cond a 1 0))
+    leaves_is : encode_leaves table p a e ≡ scrambled (encoded_word table p (cond a 1 0))
     unfolding encode_leaves
-    leaves-is = simp (eq-eqb (length p) 20 q.long, eq-eqb (length e) 48 h, admitted_admits table t)
+    leaves_is = simp (eq-eqb (length p) 20 q.long, eq-eqb (length e) 48 h, admitted_admits table t)
 
     -- where the encoded word is heard, so is the envelope
     back : (f : List ℕ → Outcome) → f (encoded_word table p (cond a 1 0)) ≡ heard StageA p 0
         → decoded_by table (encode_leaves table p a e) f ≡ record { decoding = Accepted StageA 0; payload = p }
     back f g =
-        ap (λ (l : List ℕ). decoded_by table l f) leaves-is
-        ∙ decoded-is (scrambled (encoded_word table p (cond a 1 0))) (length-scrambled (encoded_word table p (cond a 1 0))) f
+        ap (λ (l : List ℕ). decoded_by table l f) leaves_is
+        ∙ decoded_is (scrambled (encoded_word table p (cond a 1 0))) (length_scrambled (encoded_word table p (cond a 1 0))) f
         ∙ ap answered (ap f (there_again table t p q (cond a 1 0) (flag_small a)) ∙ g)
 
-    hard-back : decode_answer table (encode_leaves table p a e) ≡ record { decoding = Accepted StageA 0; payload = p }
+    hard_back : decode_answer table (encode_leaves table p a e) ≡ record { decoding = Accepted StageA 0; payload = p }
     unfolding decode_answer
-    hard-back = back (decoded_word table) (heard_back table t p q (cond a 1 0) (flag_small a))
+    hard_back = back (decoded_word table) (heard_back table t p q (cond a 1 0) (flag_small a))
 
-    soft-back : (rs : List ℕ) → soft_answer table (encode_leaves table p a e) rs ≡ record { decoding = Accepted StageA 0; payload = p }
+    soft_back : (rs : List ℕ) → soft_answer table (encode_leaves table p a e) rs ≡ record { decoding = Accepted StageA 0; payload = p }
     unfolding soft_answer
-    soft-back rs = back (λ word. softly_decoded_word table word rs) (heard_softly table t p q (cond a 1 0) (flag_small a) rs)
+    soft_back rs = back (λ word. softly_decoded_word table word rs) (heard_softly table t p q (cond a 1 0) (flag_small a) rs)
 
 pub round_trip : RoundTrip
-round_trip = record { hard = λ table t p q a e h. hard-back table t p q a e h; soft = λ table t p q a e rs h. soft-back table t p q a e h rs }
+round_trip = record { hard = λ table t p q a e h. hard_back table t p q a e h; soft = λ table t p q a e rs h. soft_back table t p q a e h rs }
 
 pub injective : Injective
 injective table t p q hp hq a b e h same =
-    ap (λ (d : Decoded). d.payload) (sym (hard-back table t p hp a e h) ∙ ap (decode_answer table) same ∙ hard-back table t q hq b e h)
+    ap (λ (d : Decoded). d.payload) (sym (hard_back table t p hp a e h) ∙ ap (decode_answer table) same ∙ hard_back table t q hq b e h)
 
 -- ---- what is accepted was heard
 
-was-heard : (t u : Bool) (o : Outcome) (s : Stage) (n : ℕ) (p : List ℕ)
+was_heard : (t u : Bool) (o : Outcome) (s : Stage) (n : ℕ) (p : List ℕ)
     → cond t (cond u (answered o) (refused_by Table)) (refused_by Size) ≡ record { decoding = Accepted s n; payload = p } → o ≡ heard s p n
-was-heard true true (heard s' p' n') s n p e =
+was_heard true true (heard s' p' n') s n p e =
     let d : Accepted s' n' ≡ Accepted s n = ap (λ (r : Decoded). r.decoding) e in
     let i : s' ≡ s = cc in
     let j : n' ≡ n = cc in
     let k : p' ≡ p = ap (λ (r : Decoded). r.payload) e in
     cc
-was-heard true true silent s n p e =
+was_heard true true silent s n p e =
     let d : Refused NoSpeech ≡ Accepted s n = ap (λ (r : Decoded). r.decoding) e in
     let z : ◌≡◌ {A = ℕ} 0 1 = cc in absurd (omega arith)
-was-heard true false o s n p e =
+was_heard true false o s n p e =
     let d : Refused Table ≡ Accepted s n = ap (λ (r : Decoded). r.decoding) e in
     let z : ◌≡◌ {A = ℕ} 0 1 = cc in absurd (omega arith)
-was-heard false u o s n p e =
+was_heard false u o s n p e =
     let d : Refused Size ≡ Accepted s n = ap (λ (r : Decoded). r.decoding) e in
     let z : ◌≡◌ {A = ℕ} 0 1 = cc in absurd (omega arith)
 
 pub exact_distance : ExactDistance
 unfolding decode_answer
 exact_distance table e s n p d =
-    heard_encodes table (descrambled e) (length-descrambled e) (descrambled-bytes e) s p n
-    (was-heard (eqb (length e) 48) (admits table) (decoded_word table (descrambled e)) s n p d)
+    heard_encodes table (descrambled e) (length_descrambled e) (descrambled_bytes e) s p n
+    (was_heard (eqb (length e) 48) (admits table) (decoded_word table (descrambled e)) s n p d)
 
 -- ---- refusals
 

@@ -5,12 +5,12 @@ use lib.Bits.{bit_xor, xor_lt}
 use Rattle.coding_rules.proofs.CrcLaws.{folded, byte_at_once}
 use Rattle.coding_crc.proofs.crc_byte.Goals as goal
 
-mixed-lt : (h x : ℕ) → h < 256 → x < 256 → bit_xor (bit_xor h x) (bit_xor h x / 16) < 256
-mixed-lt h x p q = let j : bit_xor h x < 256 = xor_lt 8 h x p q in xor_lt 8 (bit_xor h x) (bit_xor h x / 16) j (omega arith)
+mixed_lt : (h x : ℕ) → h < 256 → x < 256 → bit_xor (bit_xor h x) (bit_xor h x / 16) < 256
+mixed_lt h x p q = let j : bit_xor h x < 256 = xor_lt 8 h x p q in xor_lt 8 (bit_xor h x) (bit_xor h x / 16) j (omega arith)
 
 pub overflow_mul-result-3 : goal.overflow_mul-result-3
 overflow_mul-result-3 c =
-    let t = mixed-lt (c.args.register / 256) c.args.x (omega arith) (omega arith) in
+    let t = mixed_lt (c.args.register / 256) c.args.x (omega arith) (omega arith) in
     record { fits = omega (arith, t) }
 
 pub returns : goal.returns

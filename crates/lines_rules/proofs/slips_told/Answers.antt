@@ -13,17 +13,17 @@ use Rattle.sync_rules.proofs.Slipped.{same_moves}
 use Rattle.lines_rules.specs.Slips.{is_move, has_move}
 use Rattle.lines_rules.proofs.slips_told.Goals as goal
 
-not-false : (b : Bool) → not b ≡ false → b ≡ true
-not-false true e = refl
-not-false false e = cc
+not_false : (b : Bool) → not b ≡ false → b ≡ true
+not_false true e = refl
+not_false false e = cc
 
 neither : (a b : Bool) → (a || b) ≡ false → (a ≡ false) × (b ≡ false)
 neither true b e = absurd (true≢false e)
 neither false b e = (refl, e)
 
 still : (z : ℤ) → is_move z ≡ false → z ≡ pos 0
-still (pos n) e = ap pos (eqb-true n 0 (not-false (eqb n 0) e))
-still (negsuc n) e = absurd (omega (arith, eqb-true (suc n) 0 (not-false (eqb (suc n) 0) e)))
+still (pos n) e = ap pos (eqb-true n 0 (not_false (eqb n 0) e))
+still (negsuc n) e = absurd (omega (arith, eqb-true (suc n) 0 (not_false (eqb (suc n) 0) e)))
 
 none_left_out : (m : Moves) → has_move m ≡ false → m ≡ no_moves
 none_left_out m e =

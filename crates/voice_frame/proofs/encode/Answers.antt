@@ -4,7 +4,7 @@ use mathlib.Core.Bool.{cond}
 use lib.ListN.{length}
 use Rattle.protected_rules.proofs.Admission.{admits_admitted}
 use Rattle.voice_rules.specs.Encoded.{encoded_word}
-use Rattle.voice_frame.proofs.Answers.{size-answer, size-leaves, short-payload, short-envelope, table-answer, table-leaves, made-answer, made-leaves}
+use Rattle.voice_frame.proofs.Answers.{size_answer_lem, size_leaves, short_payload, short_envelope, table_answer, table_leaves, made_answer, made_leaves}
 use borrow.Author.Rules.{rules}
 use Rattle.voice_frame.proofs.encode.Goals as goal
 
@@ -14,7 +14,7 @@ returns-then-payload-ne20 c =
     let p = c.args.payload.now in
     let e = c.args.envelope.now in
     let a = c.args.alternate in
-    let s = short-payload t p e a c.if-payload-ne20.true in record { value = size-answer t p e a s; leaves = size-leaves t p e a s }
+    let s = short_payload t p e a c.if-payload-ne20.true in record { value = size_answer_lem t p e a s; leaves = size_leaves t p e a s }
 
 pub returns-then-envelope-ne48 : goal.returns-then-envelope-ne48
 returns-then-envelope-ne48 c =
@@ -22,7 +22,7 @@ returns-then-envelope-ne48 c =
     let p = c.args.payload.now in
     let e = c.args.envelope.now in
     let a = c.args.alternate in
-    let s = short-envelope t p e a c.if-payload-ne20.false c.if-envelope-ne48.true in record { value = size-answer t p e a s; leaves = size-leaves t p e a s }
+    let s = short_envelope t p e a c.if-payload-ne20.false c.if-envelope-ne48.true in record { value = size_answer_lem t p e a s; leaves = size_leaves t p e a s }
 
 pub returns-then-not-admitted : goal.returns-then-not-admitted
 returns-then-not-admitted c =
@@ -30,7 +30,7 @@ returns-then-not-admitted c =
     let p = c.args.payload.now in
     let e = c.args.envelope.now in
     let a = c.args.alternate in
-    let s = sym c.admitted.ensures ∙ c.if-not-admitted.true in record { value = table-answer t p e a c.if-payload-ne20.false c.if-envelope-ne48.false s; leaves = table-leaves t p e a c.if-payload-ne20.false c.if-envelope-ne48.false s }
+    let s = sym c.admitted.ensures ∙ c.if-not-admitted.true in record { value = table_answer t p e a c.if-payload-ne20.false c.if-envelope-ne48.false s; leaves = table_leaves t p e a c.if-payload-ne20.false c.if-envelope-ne48.false s }
 
 pub encode_word-word-requires : goal.encode_word-word-requires
 encode_word-word-requires c = record { fact_1 = admits_admitted _ (sym c.admitted.ensures ∙ c.if-not-admitted.false); fact_2 = c.if-payload-ne20.false }
@@ -45,4 +45,4 @@ returns c =
     let w = c.encode_word-word.result in
     let ew : w ≡ encoded_word t p (cond a 1 0) = c.encode_word-word.ensures ∙ ap (encoded_word t p) c.flag_of.ensures in
     let l : length w ≡ 42 = search rules in
-    record { value = c.scramble.ensures.value ∙ made-answer t p e a c.if-payload-ne20.false c.if-envelope-ne48.false s w ew l; leaves = c.scramble.ensures.leaves ∙ made-leaves t p e a c.if-payload-ne20.false c.if-envelope-ne48.false s w ew l }
+    record { value = c.scramble.ensures.value ∙ made_answer t p e a c.if-payload-ne20.false c.if-envelope-ne48.false s w ew l; leaves = c.scramble.ensures.leaves ∙ made_leaves t p e a c.if-payload-ne20.false c.if-envelope-ne48.false s w ew l }

@@ -12,9 +12,9 @@ use borrow.Author.Tests.{ltb-true}
 use Rattle.bits.proofs.Signs.{back, same_test, difference_fits, read, read_fits, kept_fits}
 use Rattle.bits.proofs.numbers.amount.Goals as goal
 
-amount-below : (z : ℤ) → lt_z z (pos 0) ≡ true → mag z + 1 ≡ nat_abs z
-amount-below (pos n) t = absurd (omega (arith, ltb-true n 0 t))
-amount-below (negsuc n) t = omega arith
+amount_below : (z : ℤ) → lt_z z (pos 0) ≡ true → mag z + 1 ≡ nat_abs z
+amount_below (pos n) t = absurd (omega (arith, ltb-true n 0 t))
+amount_below (negsuc n) t = omega arith
 
 pub overflow_sub-below : goal.overflow_sub-below
 overflow_sub-below c = difference_fits c.args.n c.ranges.n
@@ -30,7 +30,7 @@ pub returns-then-n-lt0 : goal.returns-then-n-lt0
 returns-then-n-lt0 c =
     let n = c.args.n in
     let fits = c.ranges.n in
-    ap (λ (y : ℤ). nat_abs y + 1) (read n fits c.if-n-lt0.true) ∙ amount-below n (same_test n fits c.if-n-lt0.true)
+    ap (λ (y : ℤ). nat_abs y + 1) (read n fits c.if-n-lt0.true) ∙ amount_below n (same_test n fits c.if-n-lt0.true)
 
 pub overflow_cast-result-2 : goal.overflow_cast-result-2
 overflow_cast-result-2 c = kept_fits c.args.n c.ranges.n c.if-n-lt0.false

@@ -29,8 +29,8 @@ module _ (z : ℤ) (h : mag z < 128) where
   same = back (to_z w8 (of_z w8 z)) wide ∙ read
 
 -- the line of a frame whose moves were tested
-abbrev lineBy : Bool → Head → Line
-lineBy b h = line_of (cond b (slip_text h.offset h.moves.front h.moves.second h.moves.third) [])
+abbrev line_by : Bool → Head → Line
+line_by b h = line_of (cond b (slip_text h.offset h.moves.front h.moves.second h.moves.third) [])
 
 pub overflow_cast-moves : goal.overflow_cast-moves
 overflow_cast-moves c = wide c.args.head.moves.front c.struct_told-1.given.0.1
@@ -47,9 +47,9 @@ returns-then-has_move c =
     let h = c.args.head in
     let said : c.slip_line.result ≡ line_of (slip_text h.offset h.moves.front h.moves.second h.moves.third)
     = c.slip_line.ensures ∙ slip_same h.offset (same h.moves.front told.0.1) (same h.moves.second told.1.0.1) (same h.moves.third told.1.1.0.1) in
-    said ∙ ap (λ (b : Bool). lineBy b h) (sym c.if-has_move.true ∙ c.has_move.ensures)
+    said ∙ ap (λ (b : Bool). line_by b h) (sym c.if-has_move.true ∙ c.has_move.ensures)
 
 pub returns : goal.returns
 returns c =
     let h = c.args.head in
-    c.empty.ensures.text ∙ ap (λ (b : Bool). lineBy b h) (sym c.if-has_move.false ∙ c.has_move.ensures)
+    c.empty.ensures.text ∙ ap (λ (b : Bool). line_by b h) (sym c.if-has_move.false ∙ c.has_move.ensures)

@@ -14,8 +14,8 @@ use Rattle.sync_rules.specs.Pushes.{drain}
 use Rattle.sync_pushes.proofs.Bringing.{steady_two}
 use Rattle.sync_steps.proofs.pushes.sends.Goals as goal
 
-after-search : (bits reliabilities room room' : List ℕ) (c found : Numbers) (d : Drained) → Searched bits c found → DrainedBy bits reliabilities room room' 0 3 (drain 3 (view_of bits reliabilities found)) d.numbers d.count d.heads → SentAfter bits reliabilities room room' c d
-after-search bits reliabilities room room' c found d s h = subst (λ (m : State). DrainedBy bits reliabilities room room' 0 3 (drain 3 m) d.numbers d.count d.heads) (s.same reliabilities) h
+after_search : (bits reliabilities room room' : List ℕ) (c found : Numbers) (d : Drained) → Searched bits c found → DrainedBy bits reliabilities room room' 0 3 (drain 3 (view_of bits reliabilities found)) d.numbers d.count d.heads → SentAfter bits reliabilities room room' c d
+after_search bits reliabilities room room' c found d s h = subst (λ (m : State). DrainedBy bits reliabilities room room' 0 3 (drain 3 m) d.numbers d.count d.heads) (s.same reliabilities) h
 
 pub returns : goal.returns
-returns c = after-search _ _ _ _ _ _ _ c.search-found.ensures c.drain.ensures
+returns c = after_search _ _ _ _ _ _ _ c.search-found.ensures c.drain.ensures

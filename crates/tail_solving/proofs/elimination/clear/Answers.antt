@@ -11,9 +11,9 @@ use Rattle.tail_solving.proofs.elimination.clear.Invariants.{row_by, row_at}
 use Rattle.tail_solving.proofs.elimination.clear.Goals as goal
 use Rattle.tail_solving.proofs.elimination.clear.Goals.{else-i-col, then-i-col}
 
-row-pivot : (m : List (List ℕ)) (col j : ℕ) → j ≡ col → row_at m col j ≡ get_or m j []
+row_pivot : (m : List (List ℕ)) (col j : ℕ) → j ≡ col → row_at m col j ≡ get_or m j []
 unfolding row_at
-row-pivot m col j e = go (ℕ_discrete j col)
+row_pivot m col j e = go (ℕ_discrete j col)
   where
     go : (q : Dec (j ≡ col)) → row_by m col j q ≡ get_or m j []
     go (yes q) = refl
@@ -31,7 +31,7 @@ pivoted : (m : List (List ℕ)) (col i : ℕ) (out : List (List ℕ)) → Changi
 pivoted m col i out f = go (dec_lt col i)
   where
     go : Dec (col < i) → get_or out col [] ≡ get_or m col []
-    go (yes l) = f.done col l ∙ row-pivot m col col refl
+    go (yes l) = f.done col l ∙ row_pivot m col col refl
     go (no l) = f.todo col (omega (arith, l))
 
 pub loop-i-init : goal.loop-i-init
@@ -59,6 +59,6 @@ loop-i-preserved c =
             (store [] _ _ i c.loop-i.out w.add_scaled.result c.loop-i.invariant.3 (omega (arith, c.loop-i.invariant.2))
             (w.add_scaled.ensures ∙ sym (row_other m col i w.if-i-col.true)))
         | else-i-col w ↦ subst (λ (o : List (List ℕ)). Changing [] m (row_at m col) (i + 1) o) (sym w.out-is)
-            (same [] _ _ i c.loop-i.out c.loop-i.invariant.3 (sym (row-pivot m col i w.if-i-col.false)))
+            (same [] _ _ i c.loop-i.out c.loop-i.invariant.3 (sym (row_pivot m col i w.if-i-col.false)))
       ],
     )
