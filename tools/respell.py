@@ -3,11 +3,12 @@
 
 usage: python3 tools/respell.py FOLDER NAMES [--edits]
 
-FOLDER holds crates/. NAMES is a file with lines 'old new', made by --list, and lines 'old new FILE' for one file alone. Without --list each file of src/, specs/ and proofs/ gets the new names; with --edits
-the texts of must-fail/*.edit get them instead. Words of the library, names that the prover makes, strings and comments' plain words stay.
+FOLDER holds crates/. NAMES is a file with lines 'old new', made by --list, and lines 'old new FILE' for one file alone. Each file of src/, specs/
+and proofs/ gets the new names; with --edits the texts of must-fail/*.edit get them instead. A name that a file imports from the library stays.
 
-    --list LIBRARY    prints the lines 'old new': each name that specs/ and the lemma files declare and that is not in snake case; LIBRARY is the folder of
-                      the library, whose names a file that imports them from there keeps
+    --list            prints the lines 'old new' instead: each name that specs/ and the lemma files declare and that is not in snake case
+
+It is run once: a second run would turn what the lines for one file have made.
 """
 import collections
 import glob
