@@ -16,3 +16,4 @@ pub mod Tests
 pub mod BelowSets
 pub mod Turns
 pub mod Signs
+pub mod Eights

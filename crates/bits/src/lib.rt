@@ -6,68 +6,41 @@
 ghost use Rattle.std.specs.Prelude.{◌≡◌};
 ghost use Rattle.bits.specs.Refusals.{number_of};
 
-mod copying;
 mod numbers;
 mod sizes;
 
-pub use copying::copy;
-pub use numbers::{amount, byte, bytes_of, lesser, parity, wide, wide16, wide32};
+pub use numbers::{byte, parity};
 pub use sizes::{FRAME_BITS, MOST_OFFSET};
 
-// The refusals of documents 01 (1 to 12) and 02 (13 to 19), in the order of their numbers.
-#[derive(Clone, Copy)]
+// The refusals of documents 01 (1 to 12) and 02 (13 to 19), each with its number there.
+#[derive(Clone, Copy, Debug, PartialEq, Eq)]
 pub enum Refusal {
-    Dibit,
-    FrameRoom,
-    StreamEnd,
-    Table,
-    Size,
-    NoSpeech,
-    Stream,
-    Offset,
-    Positions,
-    Tail,
-    Erasure,
-    Record,
-    Moves,
-    Cut,
-    SoftRecord,
-    Reliability,
-    Break,
-    Outside,
-    Index,
-}
-
-// The answer of a call that writes into lent memory and has nothing else to say.
-#[derive(Clone, Copy)]
-pub enum Writing {
-    Written,
-    Refused(Refusal),
+    Dibit = 1,
+    FrameRoom = 2,
+    StreamEnd = 3,
+    Table = 4,
+    Size = 5,
+    NoSpeech = 6,
+    Stream = 7,
+    Offset = 8,
+    Positions = 9,
+    Tail = 10,
+    Erasure = 11,
+    Record = 12,
+    Moves = 13,
+    Cut = 14,
+    SoftRecord = 15,
+    Reliability = 16,
+    Break = 17,
+    Outside = 18,
+    Index = 19,
 }
 
 // Gives the number by which the documents name a refusal.
-pub fn number_of(refusal: Refusal) -> u8
-    ensures { result ≡ number_of refusal }
-{
-    match refusal {
-        Refusal::Dibit => 1,
-        Refusal::FrameRoom => 2,
-        Refusal::StreamEnd => 3,
-        Refusal::Table => 4,
-        Refusal::Size => 5,
-        Refusal::NoSpeech => 6,
-        Refusal::Stream => 7,
-        Refusal::Offset => 8,
-        Refusal::Positions => 9,
-        Refusal::Tail => 10,
-        Refusal::Erasure => 11,
-        Refusal::Record => 12,
-        Refusal::Moves => 13,
-        Refusal::Cut => 14,
-        Refusal::SoftRecord => 15,
-        Refusal::Reliability => 16,
-        Refusal::Break => 17,
-        Refusal::Outside => 18,
-        Refusal::Index => 19,
+impl From<Refusal> for u8 {
+    ghost from_gives = { λ refusal number. number ≡ number_of refusal };
+
+    fn from(refusal: Refusal) -> u8 {
+        refusal as u8
     }
 }

@@ -15,5 +15,5 @@ mod writing;
 pub use channels_steps::{
     Desk, Progress, argument, fail, file_of, has_argument, open, taken_of, unreadable, usage,
 };
-pub use reading::{Filled, Intake, fill, read_named, read_some, read_whole, size_of, take_in};
+pub use reading::{Filled, fill, read_named, read_some, read_whole, size_of, take_in};
 pub use writing::{Sent, complain, nothing_sent, put, send, write_whole};

@@ -4,16 +4,8 @@ ghost use Rattle.io.specs.Counts.{IsPrefixLen};
 ghost use Rattle.channels.specs.Moving.{Gives, size_of, CameInto, FillsTo};
 
 use channels_steps::{Call, Desk, call_read, fail, unreadable};
-use std::io::{Error, ErrorKind, Read, Write};
+use std::io::{Error, ErrorKind, Read, Result, Write};
 use std::rt::Clock;
-
-// What a read gave: so many bytes at the front of the lent memory, the end of the input, or a failure with its reason.
-#[derive(Clone, Copy)]
-pub enum Intake {
-    Bytes(usize),
-    Ended,
-    Failed(Error),
-}
 
 // How much of the lent memory was filled, from its front, and why a read failed before it was full, if one did.
 #[derive(Clone, Copy)]
@@ -22,50 +14,36 @@ pub struct Filled {
     pub failed: Option<Error>,
 }
 
-// Gives what a read that moved so many bytes gave.
-fn given(moved: usize) -> Intake
+// Gives what a read that moved so many bytes gave: these at the front of the lent memory, or nothing at the end of the input.
+fn given(moved: usize) -> Option<usize>
     ensures { Gives moved result }
 {
-    if moved == 0 {
-        return Intake::Ended;
-    }
-    Intake::Bytes(moved)
+    if moved == 0 { None } else { Some(moved) }
 }
 
-// Reads once and gives what came, however little. It says nothing: where it gives a failure the reason is with it. Of memory without a byte it gives the
-// end. A proved loop has to end, and nothing says that a call has not to be made again: the loop counts its turns down, from a number that no run uses up.
-pub fn take_in<R: Read, C: Clock>(from: &mut R, buf: &mut [u8], clock: &C) -> Intake
+// Reads once and gives how many bytes came, however few, or nothing at the end of the input. It says nothing: a failure's reason is with the answer. Of
+// memory without a byte it gives the end. A proved loop has to end, and nothing says that a call has not to be made again: the loop has more turns than any
+// run uses up.
+pub fn take_in<R: Read, C: Clock>(from: &mut R, buf: &mut [u8], clock: &C) -> Result<Option<usize>>
     ensures came { CameInto buf.new result }
     ensures kept { length buf.new ≡ length buf.old }
 {
-    let mut turns = u64::MAX;
-    while turns > 0 {
-        let call = call_read(from, &mut *buf, clock);
-        match call {
-            Call::Moved(n) => {
-                return given(n);
-            }
-            Call::Failed(reason) => {
-                return Intake::Failed(reason);
-            }
-            Call::Again | Call::Wait => {
-                turns -= 1;
-            }
+    for _ in 0..u64::MAX {
+        match call_read(from, &mut *buf, clock) {
+            Call::Moved(n) => return Ok(given(n)),
+            Call::Failed(reason) => return Err(reason),
+            Call::Again | Call::Wait => {}
         }
     }
-    Intake::Failed(Error::from(ErrorKind::Interrupted))
+    Err(Error::from(ErrorKind::Interrupted))
 }
 
 // Gives how many bytes came into lent memory, as a number of its first bytes: a caller then lends these without a proof of its own.
-pub fn size_of(came: Intake, buf: &[u8]) -> usize
+pub fn size_of(came: Result<Option<usize>>, buf: &[u8]) -> usize
     requires { CameInto buf.now came }
     ensures { (result ≡ size_of came) × IsPrefixLen result buf.now }
 {
-    match came {
-        Intake::Bytes(n) => n,
-        Intake::Ended => 0,
-        Intake::Failed(_) => 0,
-    }
+    if let Ok(Some(n)) = came { n } else { 0 }
 }
 
 // Reads until the lent memory is full, the input ends or a read fails. It says nothing: where a read failed the reason is with the answer.
@@ -73,20 +51,13 @@ pub fn fill<R: Read, C: Clock>(from: &mut R, buf: &mut [u8], clock: &C) -> Fille
     ensures filled { FillsTo buf.new result }
     ensures kept { length buf.new ≡ length buf.old }
 {
-    let mut done: usize = 0;
+    // kept: a `while`, since a `for` is no plainer: `done` goes on by what each read gave.
+    let mut done = 0;
     while done < buf.len() {
-        let came = take_in(from, &mut buf[done..], clock);
-        match came {
-            Intake::Bytes(n) => {
-                done += n;
-            }
-            Intake::Ended => {
-                return Filled {
-                    bytes: done,
-                    failed: None,
-                };
-            }
-            Intake::Failed(reason) => {
+        match take_in(from, &mut buf[done..], clock) {
+            Ok(Some(n)) => done += n,
+            Ok(None) => break,
+            Err(reason) => {
                 return Filled {
                     bytes: done,
                     failed: Some(reason),
@@ -100,20 +71,37 @@ pub fn fill<R: Read, C: Clock>(from: &mut R, buf: &mut [u8], clock: &C) -> Fille
     }
 }
 
+// Reads once as `take_in` does; where the read fails, the reason is handed to `say`.
+fn read_told<R: Read, E: Write, C: Clock, S: FnOnce(Error, &mut E)>(
+    from: &mut R,
+    buf: &mut [u8],
+    errors: &mut E,
+    clock: &C,
+    say: S,
+) -> Result<Option<usize>>
+    requires { S.IsAlwaysCallable say }
+    ensures came { CameInto buf.new result }
+    ensures kept { length buf.new ≡ length buf.old }
+{
+    let came = take_in(from, buf, clock);
+    if let Err(reason) = came {
+        say(reason, errors);
+    }
+    came
+}
+
 // Reads once and gives what came, however little; where the read fails it says `cannot read` and the reason on standard error.
 pub fn read_some<R: Read, W: Write, E: Write, C: Clock>(
     from: &mut R,
     buf: &mut [u8],
     desk: &mut Desk<W, E, C>,
-) -> Intake
+) -> Result<Option<usize>>
     ensures came { CameInto buf.new result }
     ensures kept { length buf.new ≡ length buf.old }
 {
-    let came = take_in(from, &mut *buf, &desk.clock);
-    if let Intake::Failed(reason) = came {
-        fail(b"cannot read", reason, &mut desk.errors);
-    }
-    came
+    read_told(from, buf, &mut desk.errors, &desk.clock, |reason, errors| {
+        fail(b"cannot read", reason, errors)
+    })
 }
 
 // Reads once as `read_some` does, from one of several inputs; where the read fails it says `cannot read`, the input's name and the reason.
@@ -122,15 +110,13 @@ pub fn read_named<R: Read, W: Write, E: Write, C: Clock>(
     name: &[u8],
     buf: &mut [u8],
     desk: &mut Desk<W, E, C>,
-) -> Intake
+) -> Result<Option<usize>>
     ensures came { CameInto buf.new result }
     ensures kept { length buf.new ≡ length buf.old }
 {
-    let came = take_in(from, &mut *buf, &desk.clock);
-    if let Intake::Failed(reason) = came {
-        unreadable(name, reason, &mut desk.errors);
-    }
-    came
+    read_told(from, buf, &mut desk.errors, &desk.clock, |reason, errors| {
+        unreadable(name, reason, errors)
+    })
 }
 
 // Reads until the lent memory is full or the input ends; where a read fails it says `cannot read` and the reason on standard error.

@@ -9,34 +9,33 @@ use std::rt::Clock;
 
 // Writes the lent bytes, call by call and each from where the last one ended, until all are taken, a call takes none or one fails; then nothing more is
 // written. Without a byte it makes no call. It says nothing. A proved loop has to end, and nothing says that a call has not to be made again: the loop
-// counts its turns down, from a number that no run uses up.
+// has more turns than any run uses up.
 pub fn send<W: Write, C: Clock>(to: &mut W, bytes: &[u8], clock: &C) -> Progress
     ensures { StandsAt (length bytes.now) result }
 {
-    if bytes.len() == 0 {
+    if bytes.is_empty() {
         return Progress::Whole(0);
     }
-    let mut done: usize = 0;
-    let mut turns = u64::MAX;
-    while turns > 0 {
-        let call = call_write(to, bytes, done, clock);
+    let mut done = 0;
+    for _ in 0..u64::MAX {
+        let call = call_write(to, &bytes[done..], clock);
         let stands = advanced(bytes.len(), done, call);
         let Progress::Left(d) = stands else {
             return stands;
         };
         done = d;
-        turns -= 1;
     }
     Progress::Left(done)
 }
 
 // Says on standard error why a writing has stopped, if it has.
 fn say_stopped<E: Write, C: Clock>(stands: Progress, errors: &mut E, clock: &C) {
-    if let Progress::Failed(_, reason) = stands {
-        fail(b"cannot write", reason, errors);
-    }
-    if let Progress::Stuck(_) = stands {
-        send(errors, b"cannot write: nothing was taken\n", clock);
+    match stands {
+        Progress::Failed(_, reason) => fail(b"cannot write", reason, errors),
+        Progress::Stuck(_) => {
+            send(errors, b"cannot write: nothing was taken\n", clock);
+        }
+        Progress::Left(_) | Progress::Whole(_) => {}
     }
 }
 
@@ -83,23 +82,17 @@ pub fn nothing_sent() -> Sent
     }
 }
 
-// Writes the first n of the lent bytes to standard output behind what was sent before, or says why not; behind a hole it writes nothing.
-pub fn put<W: Write, E: Write, C: Clock>(
-    sent: Sent,
-    bytes: &[u8],
-    n: usize,
-    desk: &mut Desk<W, E, C>,
-) -> Sent
-    requires fact_1 { n ≤ length bytes.now }
-    requires fact_2 { sent.bytes + n < 2 ^ 64 }
-    ensures { PutBy n sent result }
+// Writes the lent bytes to standard output behind what was sent before, or says why not; behind a hole it writes nothing.
+pub fn put<W: Write, E: Write, C: Clock>(sent: Sent, bytes: &[u8], desk: &mut Desk<W, E, C>) -> Sent
+    requires { sent.bytes + length bytes.now < 2 ^ 64 }
+    ensures { PutBy (length bytes.now) sent result }
 {
     if !sent.whole {
         return sent;
     }
-    let taken = write_counted(&bytes[..n], desk);
+    let taken = write_counted(bytes, desk);
     Sent {
         bytes: sent.bytes + taken as u64,
-        whole: taken == n,
+        whole: taken == bytes.len(),
     }
 }

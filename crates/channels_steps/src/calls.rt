@@ -1,5 +1,5 @@
 // One call of a stream's read or write, and what it did.
-ghost use Rattle.std.specs.Prelude.{◌≤◌, ◌-◌, length};
+ghost use Rattle.std.specs.Prelude.{length};
 ghost use Rattle.channels_steps.specs.Told.{FailsFor, Told, Within};
 
 use crate::pausing::pause;
@@ -19,14 +19,11 @@ pub enum Call {
 fn failure(reason: Error) -> Call
     ensures { FailsFor reason result }
 {
-    let kind = reason.kind();
-    if kind == ErrorKind::Interrupted {
-        return Call::Again;
+    match reason.kind() {
+        ErrorKind::Interrupted => Call::Again,
+        ErrorKind::WouldBlock => Call::Wait,
+        _ => Call::Failed(reason),
     }
-    if kind == ErrorKind::WouldBlock {
-        return Call::Wait;
-    }
-    Call::Failed(reason)
 }
 
 // Tells what a call did, by its answer.
@@ -41,7 +38,7 @@ fn told(answer: Result<usize>) -> Call
 
 // Waits a little where a call would have had to wait.
 fn wait_after<C: Clock>(call: Call, clock: &C) {
-    if let Call::Wait = call {
+    if matches!(call, Call::Wait) {
         pause(clock);
     }
 }
@@ -55,12 +52,11 @@ pub fn call_read<R: Read, C: Clock>(from: &mut R, buf: &mut [u8], clock: &C) -> 
     call
 }
 
-// Writes once, of the lent bytes those from index `from` on.
-pub fn call_write<W: Write, C: Clock>(to: &mut W, bytes: &[u8], from: usize, clock: &C) -> Call
-    requires { from ≤ length bytes.now }
-    ensures { Within (length bytes.now - from) result }
+// Writes the lent bytes once.
+pub fn call_write<W: Write, C: Clock>(to: &mut W, bytes: &[u8], clock: &C) -> Call
+    ensures { Within (length bytes.now) result }
 {
-    let call = told(to.write(&bytes[from..]));
+    let call = told(to.write(bytes));
     wait_after(call, clock);
     call
 }

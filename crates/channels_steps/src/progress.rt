@@ -22,17 +22,10 @@ pub fn advanced(size: usize, done: usize, call: Call) -> Progress
     ensures { Advances size done call result }
 {
     match call {
-        Call::Moved(n) => {
-            if n == 0 {
-                return Progress::Stuck(done);
-            }
-            if n < size - done {
-                return Progress::Left(done + n);
-            }
-            Progress::Whole(done + n)
-        }
-        Call::Again => Progress::Left(done),
-        Call::Wait => Progress::Left(done),
+        Call::Moved(0) => Progress::Stuck(done),
+        Call::Moved(n) if n < size - done => Progress::Left(done + n),
+        Call::Moved(n) => Progress::Whole(done + n),
+        Call::Again | Call::Wait => Progress::Left(done),
         Call::Failed(reason) => Progress::Failed(done, reason),
     }
 }
@@ -42,9 +35,6 @@ pub fn taken_of(stands: Progress) -> usize
     ensures { result ≡ taken_of stands }
 {
     match stands {
-        Progress::Left(n) => n,
-        Progress::Whole(n) => n,
-        Progress::Stuck(n) => n,
-        Progress::Failed(n, _) => n,
+        Progress::Left(n) | Progress::Whole(n) | Progress::Stuck(n) | Progress::Failed(n, _) => n,
     }
 }

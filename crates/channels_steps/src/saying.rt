@@ -11,17 +11,10 @@ fn lay(bytes: &[u8], from: usize, room: &mut [u8]) -> usize
     requires { from ≤ length room.old }
     ensures { IsPrefixLen result room.new }
 {
-    let mut at = from;
-    let mut i = 0;
-    while i < bytes.len() {
-        if at == room.len() {
-            return at;
-        }
-        room[at] = bytes[i];
-        at += 1;
-        i += 1;
-    }
-    at
+    let count = bytes.len().min(room.len() - from);
+    let end = from + count;
+    room[from..end].copy_from_slice(&bytes[..count]);
+    end
 }
 
 // Gives how many bytes of an error's text say the system's reason: behind it stands the reason's number, in parentheses.
@@ -31,12 +24,8 @@ fn reason_size(reason: Error, text: &[u8]) -> usize
     if reason.raw_os_error().is_none() {
         return text.len();
     }
-    for (i, byte) in text.iter().enumerate() {
-        if *byte == b'(' && 0 < i {
-            return i - 1;
-        }
-    }
-    text.len()
+    let before = text.iter().skip(1).position(|byte| *byte == b'(');
+    before.unwrap_or(text.len())
 }
 
 // Writes the text of a reason, as the system has it, and lays down what it comes to: nothing can be said of a write that fails here.
@@ -85,6 +74,7 @@ pub fn open<F: Files, E: Write>(files: &F, name: &[u8], errors: &mut E) -> Resul
     }
     opened
 }
+
 // Says on standard error how a program is called: `usage: ` and the text.
 pub fn usage<E: Write>(text: &[u8], errors: &mut E) {
     let _ = errors.write_all(b"usage: ");

@@ -10,7 +10,7 @@ ghost use Rattle.coding_rules.specs.Crc.{crc_run, crc_of};
 fn crc_byte(register: u16, x: u8) -> u16
     ensures { result ≡ crc_run register (λ j. digit x (7 - j)) 8 }
 {
-    let joined = (register / 256) ^ (x as u16);
+    let joined = (register / 256) ^ u16::from(x);
     let t = joined ^ (joined / 16);
     ((register % 256) * 256) ^ (((t % 16) * 4096) ^ (t * 32) ^ t)
 }
@@ -20,8 +20,8 @@ pub fn crc16(bytes: &[u8]) -> u16
     ensures { result ≡ crc_of bytes.now }
 {
     let mut register: u16 = 0xffff;
-    for i in 0..bytes.len() {
-        register = crc_byte(register, bytes[i]);
+    for byte in bytes {
+        register = crc_byte(register, *byte);
     }
     register
 }

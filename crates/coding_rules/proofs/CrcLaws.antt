@@ -4,13 +4,12 @@ use mathlib.Core.List.{List}
 use mathlib.Core.Path.{◌≡◌, refl, sym, ap, ap₂, ◌∙◌, subst}
 use Prim.Native.Nat.{ℕ, zero, suc, ◌+◌, ◌-◌, ◌*◌, ◌/◌, ◌%◌, ◌^◌, ◌≤◌, ◌<◌}
 use native.Mathlib.Nat.{add-zero, add-suc, le_refl, le-suc, le_trans, mul-one, mul_assoc, mul_comm, pow-suc}
-use native.Mathlib.Numerals.{add-one}
 use native.Mathlib.Omega.{arith}
-use lib.Bits.{bit_xor, xor_self, xor_zero_l, xor_zero_r, xor_comm, xor_lt, xor_mod, xor_shr, xor_shifted, xor_block}
-use lib.Dec.{eqb, lit<, lit≤}
+use lib.Bits.{bit_xor, xor_self, xor_zero_r, xor_comm, xor_lt, xor_mod, xor_shr, xor_shifted}
+use lib.Dec.{lit<, lit≤}
 use lib.ListN.{length, get_or}
 use Rattle.bits.specs.Bit.{digit, bit_hi}
-use Rattle.bits.specs.Polynomials.{poly, Multiple, none, more}
+use Rattle.bits.specs.Polynomials.{poly, Multiple, none}
 use Rattle.bits.proofs.Computed.{same_below}
 use Rattle.bits.proofs.Digits.{digit_lt}
 use Rattle.bits.proofs.Multiples.{multiple_xor, multiple_double, multiple_once, one_remainder}

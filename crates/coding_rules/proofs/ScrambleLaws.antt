@@ -1,22 +1,22 @@
 -- Laws of the scrambler: which bits an envelope holds, the two round trips, and the bytes that the code works with.
 -- Assumes nothing.
-use mathlib.Core.Bool.{Bool, true, false, cond}
-use mathlib.Core.List.{List}
+use mathlib.Core.Bool.{Bool, true, false}
+use mathlib.Core.List.{List, [], ◌∷◌}
 use mathlib.Core.Path.{◌≡◌, refl, sym, ap, ap₂, ◌∙◌, subst}
 use Prim.Native.Nat.{ℕ, zero, suc, ◌+◌, ◌-◌, ◌*◌, ◌/◌, ◌%◌, ◌≤◌, ◌<◌}
 use native.Mathlib.Decide.{dec_lt}
 use native.Mathlib.Omega.{arith}
 use lib.Bits.{bit_xor, differ, xor_lt}
-use lib.Dec.{lit<, ltb, eqb, eqb→eq}
+use lib.Dec.{ltb, eqb, eqb→eq}
 use lib.ListN.{length, get_or}
 use borrow.Author.Tests.{ltb-true, ltb-false}
-use Rattle.bits.specs.Bit.{digit, bit_lo, bit_hi, tab, number, packed, Bytes}
+use Rattle.bits.specs.Bit.{digit, bit_lo, bit_hi, tab, number, Bytes}
 use Rattle.bits.proofs.Computed.{below}
-use Rattle.bits.proofs.Conds.{cond_lt, cond_ge, cond_eq, cond_ne, cond_both}
+use Rattle.bits.proofs.Conds.{cond_lt, cond_ge, cond_both}
 use Rattle.bits.proofs.Digits.{digit_lt, number_ext, number_xor, digit_xor, number_digit, digit_number}
-use Rattle.bits.proofs.Tabs.{tab_at, is_tab, packed_bit, packed_self}
+use Rattle.bits.proofs.Tabs.{tab_at, is_tab, packed_bit}
 use Rattle.bits.proofs.Xor.{xor_twice, differ_bits}
-use Rattle.coding_markers.specs.Markers.{the_markers, marker}
+use Rattle.coding_markers.specs.Markers.{marker}
 use Rattle.coding_rules.specs.Scramble.{place, s, word_bit, descrambled, back, envelope_bit, envelope_byte, scrambled}
 use Rattle.coding_rules.specs.Sequence.{key_byte, turned_byte}
 use Rattle.coding_rules.specs.Statements.{Marked}
@@ -135,11 +135,10 @@ back_and_there e l b m =
 -- ---- what the code's steps find
 
 -- a word byte: the envelope's byte turned, xored with the sequence's
-pub word_byte : (e l t : List ℕ) (k : ℕ) → k < 42 → l ≡ tab 48 (λ i. turned_byte (get_or e i 0)) → t ≡ tab 42 key_byte
-    → bit_xor (get_or l (16 * (k / 14) + 2 + k % 14) 0) (get_or t k 0) ≡ number 8 (λ j. word_bit e (8 * k + j))
+pub word_byte : (e l t : List ℕ) (k b : ℕ) → k < 42 → b ≡ 16 * (k / 14) + 2 + k % 14 → l ≡ tab 48 (λ i. turned_byte (get_or e i 0)) → t ≡ tab 42 key_byte
+    → bit_xor (get_or l b 0) (get_or t k 0) ≡ number 8 (λ j. word_bit e (8 * k + j))
 unfolding key_byte turned_byte
-word_byte e l t k h el et =
-    let b : ℕ = 16 * (k / 14) + 2 + k % 14 in
+word_byte e l t k b h eb el et =
     ap₂ bit_xor
     (ap (λ (xs : List ℕ). get_or xs b 0) el ∙ tab_at 48 (λ i. turned_byte (get_or e i 0)) b (omega arith))
     (ap (λ (xs : List ℕ). get_or xs k 0) et ∙ tab_at 42 key_byte k h)
@@ -150,7 +149,7 @@ word_byte e l t k h el et =
     ap₂ (λ (x y : ℕ). bit_xor (digit (get_or e x 0) (7 - y)) (s (8 * k + j))) e₁ e₂)
 
 -- an envelope byte of a marker
-pub from_marker : (w : List ℕ) (k i : ℕ) {r : ℕ} → k % 16 < 2 → i ≡ 2 * (k / 16) + k % 16
+from_marker : (w : List ℕ) (k i : ℕ) {r : ℕ} → k % 16 < 2 → i ≡ 2 * (k / 16) + k % 16
     → r ≡ number 8 (λ j. digit (marker (i / 2)) (8 * (1 - i % 2) + j)) → r ≡ envelope_byte w k
 from_marker w k i h d e =
     let e₁ : i / 2 ≡ k / 16 = omega arith in
@@ -180,30 +179,20 @@ from_data w t k i hk h d et e =
     ∙ differ_bits (bit_lo w (back p)) (s (back p)) (digit_lt (get_or w (back p / 8) 0) (back p % 8)) (s_lt (back p))
     ∙ sym (data_bit w p (omega arith)))
 
--- the markers' six bytes
-abbrev half_of : ℕ → ℕ
-half_of i = cond (eqb (i % 2) 0) (marker (i / 2) / 256) (marker (i / 2) % 256)
+-- the markers' six bytes, high byte first in each
+abbrev pub two_bytes : ℕ → List ℕ
+two_bytes x = x / 256 % 256 ∷ x % 256 ∷ []
 
-half_right : (i : ℕ) → i < 6 → half_of i ≡ number 8 (λ j. digit (marker (i / 2)) (8 * (1 - i % 2) + j))
+marker_half : (i : ℕ) → i < 6 → get_or (two_bytes (marker (i / 2))) (i % 2) 0 ≡ number 8 (λ j. digit (marker (i / 2)) (8 * (1 - i % 2) + j))
 unfolding number
-half_right i h =
-    eqb→eq (half_of i) (number 8 (λ j. digit (marker (i / 2)) (8 * (1 - i % 2) + j)))
-    (below 6 (λ k. eqb (half_of k) (number 8 (λ j. digit (marker (k / 2)) (8 * (1 - k % 2) + j)))) tt i h)
+marker_half i h =
+    eqb→eq (get_or (two_bytes (marker (i / 2))) (i % 2) 0) (number 8 (λ j. digit (marker (i / 2)) (8 * (1 - i % 2) + j)))
+    (below 6 (λ k. eqb (get_or (two_bytes (marker (k / 2))) (k % 2) 0) (number 8 (λ j. digit (marker (k / 2)) (8 * (1 - k % 2) + j)))) tt i h)
 
-pub marker_lt : (l : List ℕ) (k : ℕ) → l ≡ the_markers → get_or l k 0 < 65536
-marker_lt l k e = subst (λ (xs : List ℕ). get_or xs k 0 < 65536) (sym e) (go k)
-  where
-    go : (k : ℕ) → marker k < 65536
-    go zero = lit< tt
-    go (suc zero) = lit< tt
-    go (suc (suc zero)) = lit< tt
-    go (suc (suc (suc k))) = lit< tt
-
-module _ (l : List ℕ) (i : ℕ) (e : l ≡ the_markers) (h : i < 6) where
-  pub high_half : i % 2 ≡ 0 → get_or l (i / 2) 0 / 256 ≡ number 8 (λ j. digit (marker (i / 2)) (8 * (1 - i % 2) + j))
-  high_half z =
-      ap (λ (xs : List ℕ). get_or xs (i / 2) 0 / 256) e ∙ sym (cond_eq {A = ℕ} (i % 2) 0 (marker (i / 2) / 256) (marker (i / 2) % 256) z) ∙ half_right i h
-
-  pub low_half : (i % 2 ≡ 0 → ⊥) → get_or l (i / 2) 0 % 256 ≡ number 8 (λ j. digit (marker (i / 2)) (8 * (1 - i % 2) + j))
-  low_half z =
-      ap (λ (xs : List ℕ). get_or xs (i / 2) 0 % 256) e ∙ sym (cond_ne {A = ℕ} (i % 2) 0 (marker (i / 2) / 256) (marker (i / 2) % 256) z) ∙ half_right i h
+-- byte b of the marker that opens a segment stands at the segment's byte b
+pub marker_byte : (w : List ℕ) (segment b n : ℕ) → segment < 3 → b < 2 → n ≡ 16 * segment + b → get_or (two_bytes (marker segment)) b 0 ≡ envelope_byte w n
+marker_byte w segment b n h l e =
+    let i : ℕ = 2 * segment + b in
+    let e₁ : segment ≡ i / 2 = omega arith in
+    let e₂ : b ≡ i % 2 = omega arith in
+    from_marker w n i (omega arith) (omega arith) (ap₂ (λ (x y : ℕ). get_or (two_bytes (marker x)) y 0) e₁ e₂ ∙ marker_half i (omega arith))

@@ -1,11 +1,10 @@
 -- What is proved of the definitions: what CRC-16 means, the sequence as document 01 says it, that scrambling and descrambling undo each
 -- other, and that a refused call writes nothing.
 -- Assumes nothing.
-use Rattle.std.specs.Prelude.{List, ◌≡◌, ℕ, ◌+◌, ◌-◌, ◌*◌, ◌≤◌, ◌<◌, length}
+use Rattle.std.specs.Prelude.{List, ◌≡◌, ℕ, ◌+◌, ◌-◌, ◌*◌, ◌≤◌, ◌<◌, length, Ok, Err}
 use Rattle.std.specs.Int.Bits.{bit_xor}
 use Rattle.bits.specs.Bit.{digit, bit_hi, bit_lo, Bytes}
 use Rattle.bits.specs.declared.Refusal.TheVariants.{Size}
-use Rattle.bits.specs.declared.Writing.TheVariants.{Written, Refused}
 use Rattle.coding_rules.specs.Calls.{size_answer, after_descramble, after_scramble}
 use Rattle.coding_rules.specs.Crc.{crc_of, RemainderOf}
 use Rattle.coding_markers.specs.Markers.{marker}
@@ -35,7 +34,7 @@ pub record ScramblingLaws : Type 0 where
 -- The two calls. An envelope of 48 bytes and a word of 42 give the result.
 pub record CallMeaning : Type 0 where
   pub written : (envelope word : List ℕ) → length envelope ≡ 48 → length word ≡ 42
-      → (size_answer envelope word ≡ Written) × (after_descramble envelope word ≡ descrambled envelope) × (after_scramble word envelope ≡ scrambled word)
+      → (size_answer envelope word ≡ Ok tt) × (after_descramble envelope word ≡ descrambled envelope) × (after_scramble word envelope ≡ scrambled word)
   -- any other size is refused with 5, and "a refused call returns only the number and writes nowhere": what was lent is as it was
   pub refused : (envelope word : List ℕ) → (length envelope ≡ 48 → length word ≡ 42 → ⊥)
-      → (size_answer envelope word ≡ Refused Size) × (after_descramble envelope word ≡ word) × (after_scramble word envelope ≡ envelope)
+      → (size_answer envelope word ≡ Err Size) × (after_descramble envelope word ≡ word) × (after_scramble word envelope ≡ envelope)

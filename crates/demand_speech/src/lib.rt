@@ -10,8 +10,8 @@ ghost use Rattle.voice_rules.specs.Soft.{softly_decoded_word};
 ghost use Rattle.demands.specs.Demand1.{EncodingRefuses, DecodingRefuses};
 ghost use Rattle.demands.specs.Demand2.{EncodedAndDecoded, DecodedAndEncoded};
 
-use bits::Writing;
-use voice_rules::Decoded;
+use bits::Refusal;
+use voice_rules::{Speech, payload_in};
 
 // ---- demand 1
 
@@ -23,21 +23,21 @@ fn admitted(table: &[u8]) -> bool
 }
 
 // Tests 5, the sizes of payload and envelope, then 4, the table; a refused call leaves the envelope as it was.
-fn encode(table: &[u8], payload: &[u8], alternate: bool, envelope: &mut [u8]) -> Writing
+fn encode(table: &[u8], payload: &[u8], alternate: bool, envelope: &mut [u8]) -> Result<(), Refusal>
     ensures { EncodingRefuses table.now payload.now envelope.old result envelope.new }
 {
     voice_frame::encode(table, payload, alternate, envelope)
 }
 
-// Tests 5, the envelope's size, then 4, the table, then 6, whether a hard stage accepts; a refused call gives a payload of zeros.
-fn decode(table: &[u8], envelope: &[u8]) -> Decoded
+// Tests 5, the envelope's size, then 4, the table, then 6, whether a hard stage accepts; a refused call gives no payload.
+fn decode(table: &[u8], envelope: &[u8]) -> Result<Speech, Refusal>
     ensures { DecodingRefuses table.now envelope.now (decoded_word table.now) result }
 {
     voice_frame::decode(table, envelope)
 }
 
-// Tests 5, the envelope's size, then 4, the table, then 6, whether a hard stage or soft decoding accepts; a refused call gives a payload of zeros.
-fn decode_soft(table: &[u8], envelope: &[u8], reliabilities: &[u8]) -> Decoded
+// Tests 5, the envelope's size, then 4, the table, then 6, whether a hard stage or soft decoding accepts; a refused call gives no payload.
+fn decode_soft(table: &[u8], envelope: &[u8], reliabilities: &[u8]) -> Result<Speech, Refusal>
     ensures { DecodingRefuses table.now envelope.now (λ word. softly_decoded_word table.now word reliabilities.now) result }
 {
     voice_soft::decode_soft(table, envelope, reliabilities)
@@ -51,11 +51,11 @@ pub fn encode_and_decode(
     payload: &[u8],
     alternate: bool,
     envelope: &mut [u8],
-) -> Decoded
+) -> Result<Speech, Refusal>
     ensures { EncodedAndDecoded table.now payload.now alternate envelope.old envelope.new result }
 {
     voice_rules::round_trip();
-    voice_frame::encode(table, payload, alternate, &mut *envelope);
+    let _ = voice_frame::encode(table, payload, alternate, &mut *envelope);
     voice_frame::decode(table, envelope)
 }
 
@@ -65,13 +65,13 @@ pub fn decode_and_encode(
     envelope: &[u8],
     plain: &mut [u8],
     other: &mut [u8],
-) -> Decoded
+) -> Result<Speech, Refusal>
     ensures { DecodedAndEncoded table.now envelope.now plain.old other.old plain.new other.new result }
 {
     voice_rules::exact_distance();
     let decoded = voice_frame::decode(table, envelope);
-    let payload = decoded.payload;
-    voice_frame::encode(table, &payload, false, plain);
-    voice_frame::encode(table, &payload, true, other);
+    let payload = payload_in(decoded);
+    let _ = voice_frame::encode(table, &payload, false, plain);
+    let _ = voice_frame::encode(table, &payload, true, other);
     decoded
 }

@@ -13,8 +13,8 @@ ghost use Rattle.sync.specs.View.{ValidSynchroniser};
 ghost use Rattle.sync_rules.specs.State.{hard};
 ghost use Rattle.demands.specs.Demand1.{soft, PushRefuses, FeedRefuses, StepRefuses, MergerRefuses, WritingRefuses, ReadingRefuses};
 
-use bits::Writing;
-use journal::{Entry, Reading};
+use bits::Refusal;
+use journal::Entry;
 use merger::{AfterPush, Merger};
 use recorder_lines::Wanted;
 use recorder_rules::{Recorder, Stepped};
@@ -79,14 +79,14 @@ fn merger_push(m: Merger, stream: usize, figures: Head, number: u64, check: bool
 }
 
 // Tests 5, the envelope of a frame, then 12, the record and its rules; a refused call leaves the record as it was.
-fn write(entry: Entry, envelope: &[u8], record: &mut [u8]) -> Writing
+fn write(entry: Entry, envelope: &[u8], record: &mut [u8]) -> Result<(), Refusal>
     ensures { WritingRefuses entry envelope.now «record».old result «record».new }
 {
     journal::write(entry, envelope, record)
 }
 
 // Tests 12, the record and its rules; a refusal holds nothing but the number.
-fn read(record: &[u8]) -> Reading
+fn read(record: &[u8]) -> Result<Entry, Refusal>
     ensures { ReadingRefuses «record».now result }
 {
     journal::read(record)

@@ -1,13 +1,12 @@
 -- No call both takes and loses a lock: one that hands out a frame and hands back no lock found a lock.
 -- Assumes nothing.
+use Rattle.std.proofs.Common.{Result, Ok, Err}
 use mathlib.Core.Bool.{true, false}
 use mathlib.Core.List.{List, [], ◌∷◌}
 use mathlib.Core.Path.{◌≡◌, refl, sym, ap, ◌∙◌}
 use Prim.Native.Nat.{ℕ, ◌<◌}
 use native.Mathlib.Omega.{arith}
 use lib.ListN.{length}
-use Rattle.sync_inputs.specs.declared.Push.{Push}
-use Rattle.sync_inputs.specs.declared.Push.TheVariants.{Taken, Refused}
 use Rattle.sync.specs.declared.Synchroniser.{Synchroniser}
 use Rattle.sync.specs.View.{view}
 use Rattle.sync_inputs.specs.Answers.{answer_to, push_of}
@@ -17,15 +16,16 @@ use Rattle.sync_rules.specs.State.{State, Input}
 use Rattle.sync_rules.specs.Frames.{Frame}
 use Rattle.sync_rules.specs.Pushes.{step}
 use Rattle.sync_rules.proofs.Keeping.{sends_found, quiet_found}
+use Rattle.bits.specs.declared.Refusal.{Refusal}
 
 -- frames of a call on the state m that handed back the state n with no lock: m has a lock
 abbrev pub Held : State → List Frame → State → Type 0
 Held m fs n = 0 < length fs → n.figures.locked ≡ false → m.figures.locked ≡ true
 
-by_push : (a : Push) (x : Input) (m : State) → Held m (push_of a x m).sent (push_of a x m).next
+by_push : (a : Result Unit Refusal) (x : Input) (m : State) → Held m (push_of a x m).sent (push_of a x m).next
 unfolding push_of
-by_push Taken x m = sends_found x m
-by_push (Refused f) x m = λ some w. absurd (omega arith)
+by_push (Ok u) x m = sends_found x m
+by_push (Err f) x m = λ some w. absurd (omega arith)
 
 -- a feed: the last push that it made, and before it such as send nothing
 module _ (x : Input) (m : State) (rest : FedOut) (on : Held (step x m).next rest.sent rest.next) where
@@ -34,10 +34,10 @@ module _ (x : Input) (m : State) (rest : FedOut) (on : Held (step x m).next rest
   by_sent [] e = λ some w. quiet_found x m e (on some w)
   by_sent (f ∷ fs) e = λ some w. sends_found x m (omega (arith, ap length e)) w
 
-  by_answer : (a : Push) → Held m (unless_refused a m (step x m) rest).sent (unless_refused a m (step x m) rest).next
+  by_answer : (a : Result Unit Refusal) → Held m (unless_refused a m (step x m) rest).sent (unless_refused a m (step x m) rest).next
   unfolding unless_refused
-  by_answer Taken = by_sent (step x m).sent refl
-  by_answer (Refused f) = λ some w. absurd (omega arith)
+  by_answer (Ok u) = by_sent (step x m).sent refl
+  by_answer (Err f) = λ some w. absurd (omega arith)
 
 by_feed : (room : ℕ) (xs : List Input) (m : State) → Held m (fed_of room xs m).sent (fed_of room xs m).next
 unfolding fed_of

@@ -1,5 +1,6 @@
 -- Payloads for demand 2: encoding reads 158 bits, and an accepted payload's encoding is one that the call leaves.
 -- Assumes nothing.
+use Rattle.std.proofs.Common.{Result, Ok, Err}
 use mathlib.Core.Bool.{Bool, true, false, cond, ◌&&◌}
 use mathlib.Core.List.{List}
 use mathlib.Core.Logic.{◌⊎◌, inl, inr}
@@ -13,7 +14,6 @@ use lib.Seq.{get_or-set_same, get_or-set_other}
 use borrow.Author.Tests.{eq-eqb}
 use Rattle.bits.specs.Bit.{digit, bit_lo, Bytes}
 use Rattle.bits.specs.declared.Refusal.TheVariants.{Size, Table}
-use Rattle.bits.specs.declared.Writing.TheVariants.{Written}
 use Rattle.bits.proofs.Conds.{cond_lt, cond_ge}
 use Rattle.bits.proofs.Digits.{number_ext}
 use Rattle.bits.proofs.Tabs.{tab_ext}
@@ -25,15 +25,15 @@ use Rattle.protected_rules.specs.Word.{Payload, front_byte, front}
 use Rattle.protected_rules.proofs.Admission.{admits_admitted, admitted_admits}
 use Rattle.protected_rules.proofs.InputBits.{input_ext}
 use Rattle.voice_rules.specs.declared.Stage.{Stage}
-use Rattle.voice_rules.specs.declared.Decoded.{Decoded}
-use Rattle.voice_rules.specs.declared.Decoding.TheVariants.{Accepted, Refused}
-use Rattle.voice_rules.specs.Calls.{encode_answer, encode_leaves, answered, refused_by, decode_answer}
+use Rattle.bits.specs.declared.Refusal.{Refusal}
+use Rattle.voice_rules.specs.declared.Speech.{Speech}
+use Rattle.voice_rules.specs.Calls.{encode_answer, encode_leaves, payload_in, accepted, answered, decode_answer}
 use Rattle.voice_rules.specs.Encoded.{joined, encoded_word}
 use Rattle.voice_rules.specs.Hard.{decoded_word}
 use Rattle.voice_rules.specs.Statements.{RoundTrip, Encodes, ExactDistance, Injective}
 use Rattle.voice_rules.specs.Trial.{Outcome}
 use Rattle.voice_rules.proofs.ComesBack.{there_again}
-use Rattle.demands.specs.Demand2.{accepted, cleared, Differs, Demand2, EncodedAndDecoded, DecodedAndEncoded}
+use Rattle.demands.specs.Demand2.{cleared, Differs, Demand2, EncodedAndDecoded, DecodedAndEncoded}
 
 -- ---- the top two bits of byte 19
 
@@ -122,13 +122,11 @@ left_word table t p q a e h =
 
 -- what is accepted, is so with an admitted table
 was_admitted : (t u : Bool) (o : Outcome) (s : Stage) (n : ℕ) (p : List ℕ)
-    → cond t (cond u (answered o) (refused_by Table)) (refused_by Size) ≡ accepted s n p → u ≡ true
+    → cond t (cond u (answered o) (Err Table)) (Err Size) ≡ accepted s n p → u ≡ true
 was_admitted t true o s n p e = refl
 was_admitted true false o s n p e =
-    let d : Refused Table ≡ Accepted s n = ap (λ (r : Decoded). r.decoding) e in
     let z : ◌≡◌ {A = ℕ} 0 1 = cc in absurd (omega arith)
 was_admitted false false o s n p e =
-    let d : Refused Size ≡ Accepted s n = ap (λ (r : Decoded). r.decoding) e in
     let z : ◌≡◌ {A = ℕ} 0 1 = cc in absurd (omega arith)
 
 decode_admitted : (table e : List ℕ) (s : Stage) (n : ℕ) (p : List ℕ) → decode_answer table e ≡ accepted s n p → Admitted table
@@ -164,7 +162,7 @@ module _ (exact : ExactDistance) (table e : List ℕ) (s : Stage) (n : ℕ) (p :
 
 -- ---- the demand
 
-written : (table p e : List ℕ) → Admitted table → length p ≡ 20 → length e ≡ 48 → encode_answer table p e ≡ Written
+written : (table p e : List ℕ) → Admitted table → length p ≡ 20 → length e ≡ 48 → encode_answer table p e ≡ Ok tt
 unfolding encode_answer
 written table p e t h k = simp (eq-eqb (length p) 20 h, eq-eqb (length e) 48 k, admitted_admits table t)
 
@@ -183,23 +181,23 @@ demand_two r exact inj =
 
 -- ---- of the calls themselves
 
-pub encoded_and_decoded : RoundTrip → (table p : List ℕ) (a : Bool) (e e' : List ℕ) (r : Decoded) → e' ≡ encode_leaves table p a e → r ≡ decode_answer table e'
+pub encoded_and_decoded : RoundTrip → (table p : List ℕ) (a : Bool) (e e' : List ℕ) (r : Result Speech Refusal) → e' ≡ encode_leaves table p a e → r ≡ decode_answer table e'
     → EncodedAndDecoded table p a e e' r
 encoded_and_decoded round table p a e e' r left answer =
     record { leaves = left; answer = answer; comes_back = λ t q h. answer ∙ ap (decode_answer table) left ∙ round.hard table t p q a e h }
 
-module _ (exact : ExactDistance) (table e plain other plain' other' : List ℕ) (r : Decoded) (answer : r ≡ decode_answer table e)
-    (first : plain' ≡ encode_leaves table r.payload false plain) (second : other' ≡ encode_leaves table r.payload true other) where
+module _ (exact : ExactDistance) (table e plain other plain' other' : List ℕ) (r : Result Speech Refusal) (answer : r ≡ decode_answer table e)
+    (first : plain' ≡ encode_leaves table (payload_in r) false plain) (second : other' ≡ encode_leaves table (payload_in r) true other) where
   one_is_near : (s : Stage) (n : ℕ) (p : List ℕ) → r ≡ accepted s n p → length plain ≡ 48 → length other ≡ 48
       → Differs (descrambled plain') (descrambled e) n ⊎ Differs (descrambled other') (descrambled e) n
   one_is_near s n p is h k =
       let x = exactly_left exact table e s n p (sym answer ∙ is) in
       go x.1.0 x.1.1
     where
-      same : r.payload ≡ p
-      same = ap (λ (d : Decoded). d.payload) is
+      same : payload_in r ≡ p
+      same = ap payload_in is
 
-      near : (a : Bool) (room room' : List ℕ) → room' ≡ encode_leaves table r.payload a room → Differs (descrambled (encode_leaves table p a room)) (descrambled e) n
+      near : (a : Bool) (room room' : List ℕ) → room' ≡ encode_leaves table (payload_in r) a room → Differs (descrambled (encode_leaves table p a room)) (descrambled e) n
           → Differs (descrambled room') (descrambled e) n
       near a room room' left d =
           subst (λ (l : List ℕ). Differs (descrambled l) (descrambled e) n) (sym (left ∙ ap (λ (q : List ℕ). encode_leaves table q a room) same)) d

@@ -1,5 +1,6 @@
 -- Demand 1 of the merger and of the journal.
 -- Assumes nothing.
+use Rattle.std.proofs.Common.{Result, Ok, Err}
 use mathlib.Core.Bool.{Bool, true, false, true≢false, cond, not, ◌&&◌, ◌||◌}
 use mathlib.Core.List.{List, [], ◌∷◌, ◌++◌}
 use mathlib.Core.Path.{◌≡◌, refl, sym, ap, ◌∙◌}
@@ -9,14 +10,11 @@ use lib.Dec.{eqb, leb, ltb, leb-suc-suc}
 use lib.ListN.{length, get_or, set}
 use borrow.Author.Tests.{lt-ltb}
 use Rattle.bits.specs.declared.Refusal.TheVariants.{Stream, Offset, Positions, Size, Record}
-use Rattle.bits.specs.declared.Writing.{Writing}
-use Rattle.bits.specs.declared.Writing.TheVariants as writing
 use Rattle.journal_rules.specs.Record.{allowed, size_fits, entry_at, record_of, left_by, write_answer, Wrote}
 use Rattle.journal_rules.specs.Reading.{is_frame, is_gap, offset_in, length_in, figures_in, read_of}
 use Rattle.journal_rules.specs.declared.Body.{Body}
 use Rattle.journal_rules.specs.declared.Body.TheVariants.{Frame, Gap}
 use Rattle.journal_rules.specs.declared.Entry.{Entry}
-use Rattle.journal_rules.specs.declared.Reading.TheVariants as reading
 use Rattle.merger_rules.specs.Merging.{View, view, is_late, is_near, held_of, home_of, order_of, taken, filled, alone, no_position, insert_at, PushStep, push_step, put_of, push_of}
 use Rattle.merger.specs.States.{view_of, PushGave}
 use Rattle.merger.specs.declared.AfterPush.{AfterPush}
@@ -24,9 +22,10 @@ use Rattle.merger_rules.specs.declared.Held.{Held}
 use Rattle.merger.specs.declared.Merger.{Merger}
 use Rattle.merger_rules.specs.declared.Position.{Position}
 use Rattle.merger_rules.specs.declared.Keeping.{Keeping}
-use Rattle.merger_rules.specs.declared.Keeping.TheVariants.{Kept, Double, Late, Refused}
+use Rattle.merger_rules.specs.declared.Keeping.TheVariants.{Kept, Double, Late}
 use Rattle.sync_rules.specs.declared.Head.{Head}
 use Rattle.demands.specs.Demand1.{test, bad_stream, high_offset, late, belongs, first_number, Refuses, MergerRefuses, says_late, number_in_keeping, number_in_writing, number_in_reading, bad_record, envelope_tests, WritingRefuses, ReadingRefuses}
+use Rattle.bits.specs.declared.Refusal.{Refusal}
 
 -- ---- the merger
 
@@ -42,10 +41,10 @@ home_belongs o (p ∷ ps) = by (is_near o p.key) (home_belongs o ps)
 
 -- a frame that is put: it has a home (h), whose place is taken (t), or it has none and 16 positions are pending (f)
 abbrev PutBy : Bool → Bool → Bool → View → View → View → PushStep
-PutBy h t f v w u = cond h (cond t (push_step Double v) (push_step Kept w)) (cond f (push_step (Refused Positions) v) (push_step Kept u))
+PutBy h t f v w u = cond h (cond t (push_step (Ok Double) v) (push_step (Ok Kept) w)) (cond f (push_step (Err Positions) v) (push_step (Ok Kept) u))
 
 abbrev PushedBy : Bool → Bool → Bool → View → PushStep → PushStep
-PushedBy a b c v put = cond a (push_step (Refused Stream) v) (cond b (push_step (Refused Offset) v) (cond c (push_step Late v) put))
+PushedBy a b c v put = cond a (push_step (Err Stream) v) (cond b (push_step (Err Offset) v) (cond c (push_step (Ok Late) v) put))
 
 merger_cases : (a b c h t f : Bool) (v w u : View)
     → number_in_keeping (PushedBy a b c v (PutBy h t f v w u)).answer ≡ first_number (test 7 a ∷ test 8 b ∷ test 0 c ∷ test 9 (f && not h) ∷ [])
@@ -75,10 +74,10 @@ late_cases false false true v put n = refl
 late_cases false false false v put n = n
 
 -- what is kept is neither refused nor late
-kept_number : (a : Keeping) → a ≡ Kept → number_in_keeping a ≡ 0
+kept_number : (a : Result Keeping Refusal) → a ≡ Ok Kept → number_in_keeping a ≡ 0
 kept_number a e = ap number_in_keeping e
 
-kept_not_late : (a : Keeping) → says_late a ≡ true → a ≡ Kept → ⊥
+kept_not_late : (a : Result Keeping Refusal) → says_late a ≡ true → a ≡ Ok Kept → ⊥
 kept_not_late a l e = let z : false ≡ true = sym (ap says_late e) ∙ l in true≢false (sym z)
 
 module _ (m : Merger) (stream : ℕ) (figures : Head) (number : ℕ) (check : Bool) (r : AfterPush)
@@ -131,25 +130,25 @@ module _ (m : Merger) (stream : ℕ) (figures : Head) (number : ℕ) (check : Bo
 
 write_cases : (body : Body) (envelope : List ℕ) (good : Bool) (new old : List ℕ)
     → Refuses (envelope_tests body envelope ++ (test 12 (not good) ∷ []))
-    (number_in_writing (cond (size_fits body (length envelope)) (cond good writing.Written (writing.Refused Record)) (writing.Refused Size)))
-    (left_by (cond (size_fits body (length envelope)) (cond good writing.Written (writing.Refused Record)) (writing.Refused Size)) new old ≡ old)
+    (number_in_writing (cond (size_fits body (length envelope)) (cond good (Ok tt) (Err Record)) (Err Size)))
+    (left_by (cond (size_fits body (length envelope)) (cond good (Ok tt) (Err Record)) (Err Size)) new old ≡ old)
 unfolding first_number
 write_cases (Frame f) envelope good new old = by (eqb (length envelope) 48) good
   where
     by : (a g : Bool)
-        → Refuses (test 5 (not a) ∷ test 12 (not g) ∷ []) (number_in_writing (cond a (cond g writing.Written (writing.Refused Record)) (writing.Refused Size)))
-        (left_by (cond a (cond g writing.Written (writing.Refused Record)) (writing.Refused Size)) new old ≡ old)
+        → Refuses (test 5 (not a) ∷ test 12 (not g) ∷ []) (number_in_writing (cond a (cond g (Ok tt) (Err Record)) (Err Size)))
+        (left_by (cond a (cond g (Ok tt) (Err Record)) (Err Size)) new old ≡ old)
     by true true = record { exactly = refl; as_before = λ h. absurd (h refl) }
     by true false = record { exactly = refl; as_before = λ h. refl }
     by false g = record { exactly = refl; as_before = λ h. refl }
 write_cases (Gap n) envelope good new old = by good
   where
     by : (g : Bool)
-        → Refuses (test 12 (not g) ∷ []) (number_in_writing (cond g writing.Written (writing.Refused Record))) (left_by (cond g writing.Written (writing.Refused Record)) new old ≡ old)
+        → Refuses (test 12 (not g) ∷ []) (number_in_writing (cond g (Ok tt) (Err Record))) (left_by (cond g (Ok tt) (Err Record)) new old ≡ old)
     by true = record { exactly = refl; as_before = λ h. absurd (h refl) }
     by false = record { exactly = refl; as_before = λ h. refl }
 
-pub write : (entry : Entry) (envelope bytes : List ℕ) (answer : Writing) (bytes' : List ℕ)
+pub write : (entry : Entry) (envelope bytes : List ℕ) (answer : Result Unit Refusal) (bytes' : List ℕ)
     → Wrote 64 entry envelope bytes answer bytes' → WritingRefuses entry envelope bytes answer bytes'
 write entry envelope bytes answer bytes' wrote =
     record {
@@ -162,7 +161,7 @@ write entry envelope bytes answer bytes' wrote =
     by_cases = write_cases entry.body envelope (eqb (length bytes) 64 && allowed entry) (record_of entry envelope) bytes
 
 read_cases : (long frame-kind gap-kind frame gap : Bool) (e d : Entry)
-    → number_in_reading (cond long (cond frame-kind (cond frame (reading.Holds e) (reading.Refused Record)) (cond gap-kind (cond gap (reading.Holds d) (reading.Refused Record)) (reading.Refused Record))) (reading.Refused Record))
+    → number_in_reading (cond long (cond frame-kind (cond frame (Ok e) (Err Record)) (cond gap-kind (cond gap (Ok d) (Err Record)) (Err Record))) (Err Record))
     ≡ first_number (test 12 (not (long && cond frame-kind frame (gap-kind && gap))) ∷ [])
 unfolding first_number
 read_cases false k l f g e d = refl

@@ -1,5 +1,6 @@
 -- The recorder of two streams refuses too little memory, and nothing is done then.
 -- Assumes nothing.
+use Rattle.std.proofs.Common.{Option, Result, Ok, Err}
 use mathlib.Core.Path.{◌≡◌, refl, sym, ap, ◌∙◌, subst}
 use mathlib.Core.Bool.{Bool, true, false, cond, true≢false}
 use mathlib.Core.List.{List, [], ◌∷◌}
@@ -11,7 +12,6 @@ use lib.ListN.{length}
 use lib.Seq.{sets}
 use Rattle.bits.specs.declared.Refusal.TheVariants.{FrameRoom}
 use Rattle.journal_rules.specs.Gaps.{Framed, pieces_from}
-use Rattle.journal_rules.specs.declared.Earlier.{Earlier}
 use Rattle.merge_recorder_rules.specs.Steps.{both_of, merge_need, flushed_in, MergeSteppedBy, MergeFlushedBy}
 use Rattle.merge_recorder_rules.specs.declared.MergeRecorder.{MergeRecorder}
 use Rattle.merge_recorder_rules.specs.declared.MergeStepped.{MergeStepped}
@@ -19,22 +19,21 @@ use Rattle.merging_rules.specs.Piles.{Pile, Handed, handed}
 use Rattle.merging_rules.specs.Turns.{Both, walk, flushed}
 use Rattle.merging_rules.specs.Works.{pile_of, last_written, bytes_of}
 use Rattle.recorder_rules.specs.Makings.{Trying, rendered}
-use Rattle.sync_inputs.specs.declared.Push.{Push}
-use Rattle.sync_inputs.specs.declared.Push.TheVariants.{Taken, Refused}
 use Rattle.sync_rules.specs.State.{Input}
 use Rattle.demands.specs.Demand1.{test, first_number, small_memory, number_in_push, Unmerged, MergeStepRefuses}
+use Rattle.bits.specs.declared.Refusal.{Refusal}
 
-by_memory : (b : Bool) → number_in_push (cond b (Refused FrameRoom) Taken) ≡ first_number (test 2 b ∷ [])
+by_memory : (b : Bool) → number_in_push (cond b (Err FrameRoom) (Ok tt)) ≡ first_number (test 2 b ∷ [])
 unfolding first_number
 by_memory true = refl
 by_memory false = refl
 
 -- a refusal is one for want of memory
-small : (b : Bool) (a : Push) → a ≡ cond b (Refused FrameRoom) Taken → (number_in_push a ≡ 0 → ⊥) → b ≡ true
+small : (b : Bool) (a : Result Unit Refusal) → a ≡ cond b (Err FrameRoom) (Ok tt) → (number_in_push a ≡ 0 → ⊥) → b ≡ true
 small true a e h = refl
 small false a e h = absurd (h (ap number_in_push e))
 
-no_bytes : (e : Earlier) → bytes_of e [] ≡ []
+no_bytes : (e : Option ℕ) → bytes_of e [] ≡ []
 unfolding pieces_from rendered
 no_bytes e = refl
 

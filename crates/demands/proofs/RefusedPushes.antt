@@ -1,5 +1,6 @@
 -- Demand 1 of the synchroniser: a push by its three tests, and a feed by the tests of the push that it stopped before.
 -- Assumes nothing.
+use Rattle.std.proofs.Common.{Result, Ok, Err}
 use mathlib.Core.Bool.{Bool, true, false, cond}
 use mathlib.Core.List.{List, [], ◌∷◌}
 use mathlib.Core.Logic.{◌⊎◌, inl, inr}
@@ -18,8 +19,6 @@ use Rattle.sync.specs.Feeds.{FedBy}
 use Rattle.sync_frames.specs.Frames.{heads_of}
 use Rattle.sync.specs.View.{view}
 use Rattle.sync.specs.declared.Fed.{Fed}
-use Rattle.sync_inputs.specs.declared.Push.{Push}
-use Rattle.sync_inputs.specs.declared.Push.TheVariants.{Taken, Refused}
 use Rattle.sync.specs.declared.Pushed.{Pushed}
 use Rattle.sync.specs.declared.Synchroniser.{Synchroniser}
 use Rattle.sync_call_rules.proofs.Feeding.{feed_rules_lem}
@@ -32,7 +31,7 @@ use Rattle.demands.specs.Demand1.{Test, test, first_number, Refuses, number_in_p
 -- ---- a push
 
 pub push_cases : (a b c : Bool)
-    → number_in_push (cond a (Refused Dibit) (cond b (Refused FrameRoom) (cond c (Refused StreamEnd) Taken))) ≡ first_number (test 1 a ∷ test 2 b ∷ test 3 c ∷ [])
+    → number_in_push (cond a (Err Dibit) (cond b (Err FrameRoom) (cond c (Err StreamEnd) (Ok tt)))) ≡ first_number (test 1 a ∷ test 2 b ∷ test 3 c ∷ [])
 unfolding first_number
 push_cases true b c = refl
 push_cases false true c = refl
@@ -51,13 +50,13 @@ push_refuses s x room r room' p =
       as_before = λ h. nothing_done h (answer_to (length room) x (view s)) refl;
     }
   where
-    nothing_done : (number_in_push r.answer ≡ 0 → ⊥) → (a : Push) → answer_to (length room) x (view s) ≡ a → Unpushed s room r room'
-    nothing_done h Taken e = absurd (h (ap number_in_push (p.answer ∙ e)))
-    nothing_done h (Refused f) e =
+    nothing_done : (number_in_push r.answer ≡ 0 → ⊥) → (a : Result Unit Refusal) → answer_to (length room) x (view s) ≡ a → Unpushed s room r room'
+    nothing_done h (Ok u) e = absurd (h (ap number_in_push (p.answer ∙ e)))
+    nothing_done h (Err f) e =
         record {
           state = p.kept (ap takes (p.answer ∙ e));
-          nothing = (p.many ∙ ap (λ (a : Push). length (push_of a x (view s)).sent) e, p.figures ∙ ap (λ (a : Push). heads_of 3 (push_of a x (view s)).sent) e);
-          lent = p.stored ∙ ap (λ (a : Push). laid room 0 (push_of a x (view s)).sent) e;
+          nothing = (p.many ∙ ap (λ (a : Result Unit Refusal). length (push_of a x (view s)).sent) e, p.figures ∙ ap (λ (a : Result Unit Refusal). heads_of 3 (push_of a x (view s)).sent) e);
+          lent = p.stored ∙ ap (λ (a : Result Unit Refusal). laid room 0 (push_of a x (view s)).sent) e;
         }
 
 -- ---- a feed
@@ -82,7 +81,7 @@ module _ (room : ℕ) (inputs : List Input) (m : State) where
     answer : Out.answer ≡ answer_to room next Out.next
     sent : Out.sent ≡ []
 
-  stopped : (f : Refusal) → Out.answer ≡ Refused f → Stopped f
+  stopped : (f : Refusal) → Out.answer ≡ Err f → Stopped f
   unfolding takes
   stopped f e = by (drop Out.used inputs) refl
     where
@@ -106,9 +105,9 @@ module _ (room : ℕ) (inputs : List Input) (m : State) where
       at_end (inl h) = let all : length inputs ≤ Out.used = omega arith in drop_of_length-le inputs all
       at_end (inr h) = absurd (omega (arith, ap length no_frame))
 
-      by : (a : Push) → Out.answer ≡ a → number_in_push Out.answer ≡ first_number (tests (drop Out.used inputs))
-      by Taken e = ap number_in_push e ∙ sym end ∙ sym (ap (λ (l : List Input). first_number (tests l)) (at_end (rule.stop.0 e)))
-      by (Refused f) e =
+      by : (a : Result Unit Refusal) → Out.answer ≡ a → number_in_push Out.answer ≡ first_number (tests (drop Out.used inputs))
+      by (Ok u) e = ap number_in_push e ∙ sym end ∙ sym (ap (λ (l : List Input). first_number (tests l)) (at_end (rule.stop.0 e)))
+      by (Err f) e =
           let at = stopped f e in
           ap number_in_push at.answer ∙ next at.next at.rest ∙ sym (ap (λ (l : List Input). first_number (tests l)) at.left)
 
@@ -116,9 +115,9 @@ module _ (room : ℕ) (inputs : List Input) (m : State) where
   pub fed_sends : 0 < length Out.sent → number_in_push Out.answer ≡ 0
   fed_sends some = by Out.answer refl
     where
-      by : (a : Push) → Out.answer ≡ a → number_in_push Out.answer ≡ 0
-      by Taken e = ap number_in_push e
-      by (Refused f) e = absurd (omega (arith, ap length (stopped f e).sent))
+      by : (a : Result Unit Refusal) → Out.answer ≡ a → number_in_push Out.answer ≡ 0
+      by (Ok u) e = ap number_in_push e
+      by (Err f) e = absurd (omega (arith, ap length (stopped f e).sent))
 
 pub feed_refuses : (s : Synchroniser) (inputs : List Input) (room : List ℕ) (r : Fed) (room' : List ℕ)
     → FedBy room room' (fed_of (length room) inputs (view s)) r → FeedRefuses s inputs room r room'

@@ -1,6 +1,7 @@
 -- Demand 1 of the calls that have no state: coding, tail, the voice frame. Each answer is a chain of choices, and so is the number of its tests:
 -- they agree in every case of the choices.
 -- Assumes nothing.
+use Rattle.std.proofs.Common.{Result, Ok, Err}
 use mathlib.Core.Bool.{Bool, true, false, cond, not, ◌&&◌}
 use mathlib.Core.List.{List, [], ◌∷◌, ◌++◌}
 use mathlib.Core.Path.{◌≡◌, refl, ap, subst, ◌∙◌}
@@ -10,26 +11,24 @@ use lib.Dec.{eqb}
 use lib.ListN.{length, take, drop, length-drop, take-append-drop}
 use borrow.Author.Tests.{eq-eqb, eqb-true}
 use Rattle.bits.specs.declared.Refusal.TheVariants.{Size, Table, Erasure}
-use Rattle.bits.specs.declared.Writing.TheVariants as writing
 use Rattle.coding_rules.specs.Calls.{size_answer, after_descramble, after_scramble}
 use Rattle.coding_rules.specs.Scramble.{descrambled, scrambled}
 use Rattle.protected_rules.specs.Table.{admits}
 use Rattle.tail_rules.specs.Calls.{erasable, answer_of, written_over, tail_answer, tail_leaves, word_answer, word_leaves}
 use Rattle.tail_rules.specs.Encode as making
 use Rattle.tail_rules.specs.Repair.{Answer, refused, repaired, repair_of}
-use Rattle.tail_rules.specs.declared.Repairing.{Repairing}
-use Rattle.tail_rules.specs.declared.Repairing.TheVariants as repairing
-use Rattle.voice_rules.specs.Calls.{encode_answer, encode_leaves, refused_by, answered, decode_answer, soft_answer, no_payload}
+use Rattle.voice_rules.specs.Calls.{encode_answer, encode_leaves, answered, decode_answer, soft_answer, no_payload, payload_in}
 use Rattle.voice_rules.specs.Encoded.{encoded_word}
 use Rattle.voice_rules.specs.Hard.{decoded_word}
 use Rattle.voice_rules.specs.Soft.{softly_decoded_word}
 use Rattle.voice_rules.specs.Trial.{Outcome, heard, silent}
 use Rattle.demands.specs.Demand1.{Test, test, is_silent, is_refused, first_number, Refuses, number_in_writing, number_in_repairing, number_in_decoding, bad_erasure, no_repair, ScramblingRefuses, TailRefuses, WordRefuses, MakingRefuses, EncodingRefuses, DecodingRefuses}
+use Rattle.bits.specs.declared.Refusal.{Refusal}
 
 -- ---- word and envelope
 
 two_sizes : (a b : Bool) (new old : List ℕ)
-    → Refuses (test 5 (not a) ∷ test 5 (not b) ∷ []) (number_in_writing (cond (a && b) writing.Written (writing.Refused Size))) (cond (a && b) new old ≡ old)
+    → Refuses (test 5 (not a) ∷ test 5 (not b) ∷ []) (number_in_writing (cond (a && b) (Ok tt) (Err Size))) (cond (a && b) new old ≡ old)
 unfolding first_number
 two_sizes true true new old = record { exactly = refl; as_before = λ h. absurd (h refl) }
 two_sizes true false new old = record { exactly = refl; as_before = λ h. refl }
@@ -46,7 +45,7 @@ scramble word envelope = two_sizes (eqb (length envelope) 48) (eqb (length word)
 -- ---- the tail
 
 one_size : (a : Bool) (new old : List ℕ)
-    → Refuses (test 5 (not a) ∷ []) (number_in_writing (cond a writing.Written (writing.Refused Size))) (cond a new old ≡ old)
+    → Refuses (test 5 (not a) ∷ []) (number_in_writing (cond a (Ok tt) (Err Size))) (cond a new old ≡ old)
 unfolding first_number
 one_size true new old = record { exactly = refl; as_before = λ h. absurd (h refl) }
 one_size false new old = record { exactly = refl; as_before = λ h. refl }
@@ -57,7 +56,7 @@ encode_word word = one_size (eqb (length word) 42) (take 28 word ++ making.tail_
 
 tail_cases : (a b : Bool) (r : Answer) (old : List ℕ)
     → Refuses (test 5 (not a) ∷ test 11 (not b) ∷ test 10 (is_refused r) ∷ [])
-    (number_in_repairing (cond a (cond b (answer_of r) (repairing.Refused Erasure)) (repairing.Refused Size))) (cond a (cond b (written_over old r) old) old ≡ old)
+    (number_in_repairing (cond a (cond b (answer_of r) (Err Erasure)) (Err Size))) (cond a (cond b (written_over old r) old) old ≡ old)
 unfolding first_number
 tail_cases true true refused old = record { exactly = refl; as_before = λ h. refl }
 tail_cases true true (repaired c n) old = record { exactly = refl; as_before = λ h. absurd (h refl) }
@@ -69,9 +68,9 @@ unfolding tail_answer tail_leaves
 repair_erasures tail places = tail_cases (eqb (length tail) 14) (erasable places) (repair_of places tail) tail
 
 -- a word whose size is right is refused as its tail is, and keeps its front
-word_cases : (a : Bool) (tests : List Test) (answer : Repairing) (word left : List ℕ)
+word_cases : (a : Bool) (tests : List Test) (answer : Result ℕ Refusal) (word left : List ℕ)
     → (a ≡ true → Refuses (test 5 false ∷ tests) (number_in_repairing answer) (left ≡ drop 28 word))
-    → Refuses (test 5 (not a) ∷ tests) (number_in_repairing (cond a answer (repairing.Refused Size))) (cond a (take 28 word ++ left) word ≡ word)
+    → Refuses (test 5 (not a) ∷ tests) (number_in_repairing (cond a answer (Err Size))) (cond a (take 28 word ++ left) word ≡ word)
 unfolding first_number
 word_cases true tests answer word left r =
     record { exactly = (r refl).exactly; as_before = λ h. ap (λ (l : List ℕ). take 28 word ++ l) ((r refl).as_before h) ∙ take-append-drop 28 word }
@@ -97,7 +96,7 @@ repair_word_erasures word places =
 
 encode_cases : (a b c : Bool) (new old : List ℕ)
     → Refuses (test 5 (not a) ∷ test 5 (not b) ∷ test 4 (not c) ∷ [])
-    (number_in_writing (cond (a && b) (cond c writing.Written (writing.Refused Table)) (writing.Refused Size))) (cond (a && b) (cond c new old) old ≡ old)
+    (number_in_writing (cond (a && b) (cond c (Ok tt) (Err Table)) (Err Size))) (cond (a && b) (cond c new old) old ≡ old)
 unfolding first_number
 encode_cases true true true new old = record { exactly = refl; as_before = λ h. absurd (h refl) }
 encode_cases true true false new old = record { exactly = refl; as_before = λ h. refl }
@@ -112,8 +111,8 @@ encode table payload alternate envelope =
 
 decode_cases : (a b : Bool) (o : Outcome)
     → Refuses (test 5 (not a) ∷ test 4 (not b) ∷ test 6 (is_silent o) ∷ [])
-    (number_in_decoding (cond a (cond b (answered o) (refused_by Table)) (refused_by Size)).decoding)
-    ((cond a (cond b (answered o) (refused_by Table)) (refused_by Size)).payload ≡ no_payload)
+    (number_in_decoding (cond a (cond b (answered o) (Err Table)) (Err Size)))
+    (payload_in (cond a (cond b (answered o) (Err Table)) (Err Size)) ≡ no_payload)
 unfolding first_number
 decode_cases true true (heard s p n) = record { exactly = refl; as_before = λ h. absurd (h refl) }
 decode_cases true true silent = record { exactly = refl; as_before = λ h. refl }

@@ -1,5 +1,6 @@
 -- Demand 3 written out: from the row of frames that the calls hand out to each frame of it, and document 01's sentences from the rules'.
 -- Assumes nothing.
+use Rattle.std.proofs.Common.{Ok}
 use mathlib.Core.Bool.{true, false}
 use mathlib.Core.List.{List, [], ◌∷◌, ◌++◌}
 use mathlib.Core.Path.{◌≡◌, refl, sym, ap, ap₂, ◌∙◌, subst}
@@ -10,7 +11,6 @@ use lib.IntN.{pos, ◌+ℤ◌, +ℤ_idl}
 use lib.ListN.{length, get_or, take, drop, length-take}
 use lib.Seq.{get_or-take}
 use Rattle.sync.specs.declared.Synchroniser.{Synchroniser}
-use Rattle.sync_inputs.specs.declared.Push.TheVariants.{Taken}
 use Rattle.sync.specs.View.{view}
 use Rattle.sync_inputs.specs.Answers.{answer_to}
 use Rattle.sync_call_rules.specs.Calls.{Call, History, state_of, accepted, Got, handed, shown_as, stream_of, place_in, last_got, first_got, got_in_a_row}
@@ -97,7 +97,7 @@ exactly bits p q k earlier out h row =
       later = λ j l. omega (arith, offset j (omega arith), offset (suc j) l);
     }
 
-is_taken : (x : Input) (room : ℕ) (m : State) → x.dibit ≤ 3 → 1296 ≤ room → m.figures.taken < 2 ^ 40 → answer_to room x m ≡ Taken
+is_taken : (x : Input) (room : ℕ) (m : State) → x.dibit ≤ 3 → 1296 ≤ room → m.figures.taken < 2 ^ 40 → answer_to room x m ≡ Ok tt
 unfolding answer_to
 is_taken x room m a b h = simp (le-ltb 3 x.dibit a, le-ltb room 1296 b, lt-leb (2 ^ 40) m.figures.taken h)
 

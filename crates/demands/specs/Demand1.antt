@@ -10,10 +10,8 @@
 -- Inputs are not restricted: no call has a `requires` but its state's invariant, which every call that hands out a state ensures. What is lent
 -- only to be read no call can write. That a call ends is said nowhere: a function that may not end is not proved at all.
 -- Assumes nothing.
-use Rattle.std.specs.Prelude.{Bool, true, false, cond, not, ◌&&◌, ◌||◌, List, [], ◌∷◌, ◌++◌, ◌≡◌, ℕ, ◌^◌, ◌<◌, eqb, leb, ltb, length, get_or, take, drop}
+use Rattle.std.specs.Prelude.{Bool, true, false, cond, not, ◌&&◌, ◌||◌, List, [], ◌∷◌, ◌++◌, ◌≡◌, ℕ, ◌^◌, ◌<◌, eqb, leb, ltb, length, get_or, take, drop, Option, Result, Ok, Err}
 use Rattle.bits.specs.Refusals.{number_of}
-use Rattle.bits.specs.declared.Writing.{Writing}
-use Rattle.bits.specs.declared.Writing.TheVariants as writing
 use Rattle.coding_rules.specs.Calls.{size_answer, after_descramble, after_scramble}
 use Rattle.coding_rules.specs.Scramble.{descrambled}
 use Rattle.journal_rules.specs.Record.{allowed, Wrote}
@@ -21,15 +19,12 @@ use Rattle.journal_rules.specs.Reading.{is_frame, is_gap, read_of}
 use Rattle.journal_rules.specs.declared.Body.{Body}
 use Rattle.journal_rules.specs.declared.Body.TheVariants.{Frame, Gap}
 use Rattle.journal_rules.specs.declared.Entry.{Entry}
-use Rattle.journal_rules.specs.declared.Reading.{Reading}
-use Rattle.journal_rules.specs.declared.Reading.TheVariants as reading
 use Rattle.merge_recorder_rules.specs.Steps.{both_of, merge_need, MergeSteppedBy, MergeFlushedBy}
 use Rattle.merge_recorder_rules.specs.declared.MergeRecorder.{MergeRecorder}
 use Rattle.merge_recorder_rules.specs.declared.MergeStepped.{MergeStepped}
 use Rattle.merger_rules.specs.Merging.{is_late, is_near, held_of, push_of}
 use Rattle.merger.specs.States.{view_of, PushGave}
 use Rattle.merger.specs.declared.AfterPush.{AfterPush}
-use Rattle.merger_rules.specs.declared.Clock.{Clock}
 use Rattle.merger.specs.declared.Merger.{Merger}
 use Rattle.merger_rules.specs.declared.Position.{Position}
 use Rattle.merger_rules.specs.declared.Keeping.{Keeping}
@@ -46,8 +41,6 @@ use Rattle.sync_inputs.specs.Inputs.{hardly, softly, unpacked}
 use Rattle.sync_frames.specs.Frames.{heads_of}
 use Rattle.sync.specs.View.{view}
 use Rattle.sync.specs.declared.Fed.{Fed}
-use Rattle.sync_inputs.specs.declared.Push.{Push}
-use Rattle.sync_inputs.specs.declared.Push.TheVariants as pushing
 use Rattle.sync.specs.declared.Pushed.{Pushed}
 use Rattle.sync.specs.declared.Synchroniser.{Synchroniser}
 use Rattle.sync_rules.specs.Pushes.{run}
@@ -56,15 +49,12 @@ use Rattle.sync_rules.specs.declared.Head.{Head}
 use Rattle.tail_rules.specs.Calls.{erasable, NotErasable, tail_answer, tail_leaves, word_answer, word_leaves}
 use Rattle.tail_rules.specs.Encode as making
 use Rattle.tail_rules.specs.Repair.{Answer, refused, repaired, Repairs, repair_of}
-use Rattle.tail_rules.specs.declared.Repairing.{Repairing}
-use Rattle.tail_rules.specs.declared.Repairing.TheVariants as repairing
-use Rattle.voice_rules.specs.Calls.{encode_answer, encode_leaves, decode_answer, soft_answer, no_payload}
+use Rattle.voice_rules.specs.Calls.{encode_answer, encode_leaves, decode_answer, soft_answer, no_payload, payload_in}
 use Rattle.voice_rules.specs.Hard.{decoded_word}
 use Rattle.voice_rules.specs.Soft.{softly_decoded_word}
 use Rattle.voice_rules.specs.Trial.{Outcome, heard, silent}
-use Rattle.voice_rules.specs.declared.Decoded.{Decoded}
-use Rattle.voice_rules.specs.declared.Decoding.{Decoding}
-use Rattle.voice_rules.specs.declared.Decoding.TheVariants as decoding
+use Rattle.voice_rules.specs.declared.Speech.{Speech}
+use Rattle.bits.specs.declared.Refusal.{Refusal}
 
 -- ---- document 01, 'Numbered refusals': No., given exactly when
 
@@ -149,31 +139,31 @@ pub record Refuses (tests : List Test) (number : ℕ) (Before : Type 0) : Type 0
 
 -- ---- the number of an answer, for each kind of answer; 0: it is no refusal
 
-abbrev pub number_in_writing : Writing → ℕ
-number_in_writing writing.Written = 0
-number_in_writing (writing.Refused r) = number_of r
+abbrev pub number_in_writing : Result Unit Refusal → ℕ
+number_in_writing (Ok u) = 0
+number_in_writing (Err r) = number_of r
 
-abbrev pub number_in_repairing : Repairing → ℕ
-number_in_repairing (repairing.Repaired changed) = 0
-number_in_repairing (repairing.Refused r) = number_of r
+abbrev pub number_in_repairing : Result ℕ Refusal → ℕ
+number_in_repairing (Ok changed) = 0
+number_in_repairing (Err r) = number_of r
 
-abbrev pub number_in_decoding : Decoding → ℕ
-number_in_decoding (decoding.Accepted stage corrected) = 0
-number_in_decoding (decoding.Refused r) = number_of r
+abbrev pub number_in_decoding : Result Speech Refusal → ℕ
+number_in_decoding (Ok speech) = 0
+number_in_decoding (Err r) = number_of r
 
-abbrev pub number_in_push : Push → ℕ
-number_in_push pushing.Taken = 0
-number_in_push (pushing.Refused r) = number_of r
+abbrev pub number_in_push : Result Unit Refusal → ℕ
+number_in_push (Ok u) = 0
+number_in_push (Err r) = number_of r
 
-abbrev pub number_in_keeping : Keeping → ℕ
-number_in_keeping keeping.Kept = 0
-number_in_keeping keeping.Double = 0
-number_in_keeping keeping.Late = 0
-number_in_keeping (keeping.Refused r) = number_of r
+abbrev pub number_in_keeping : Result Keeping Refusal → ℕ
+number_in_keeping (Ok keeping.Kept) = 0
+number_in_keeping (Ok keeping.Double) = 0
+number_in_keeping (Ok keeping.Late) = 0
+number_in_keeping (Err r) = number_of r
 
-abbrev pub number_in_reading : Reading → ℕ
-number_in_reading (reading.Holds entry) = 0
-number_in_reading (reading.Refused r) = number_of r
+abbrev pub number_in_reading : Result Entry Refusal → ℕ
+number_in_reading (Ok entry) = 0
+number_in_reading (Err r) = number_of r
 
 -- ---- what each call refuses
 -- "Order: pushes test 1, 2, 3; encoding and decoding 5, 4, 6; the journal 5, 12; tail repair 5, 11, 10; the merger 7, 8, late, 9. A refused call
@@ -181,31 +171,31 @@ number_in_reading (reading.Refused r) = number_of r
 -- Of each call: what it is given, its answer, and last what the memory lent to be written holds afterwards, with a prime.
 
 -- word and envelope, either into the other's lent memory: 5
-abbrev pub ScramblingRefuses : List ℕ → List ℕ → Writing → List ℕ → List ℕ → Type 0
+abbrev pub ScramblingRefuses : List ℕ → List ℕ → Result Unit Refusal → List ℕ → List ℕ → Type 0
 ScramblingRefuses envelope word answer lent lent' = Refuses (wrong_size 48 envelope ∷ wrong_size 42 word ∷ []) (number_in_writing answer) (lent' ≡ lent)
 
 -- the repair of a tail, of a word's tail: 5, 11, 10
-abbrev pub TailRefuses : List ℕ → List ℕ → Repairing → List ℕ → Type 0
+abbrev pub TailRefuses : List ℕ → List ℕ → Result ℕ Refusal → List ℕ → Type 0
 TailRefuses tail places answer tail' =
     Refuses (wrong_size 14 tail ∷ bad_erasure places ∷ no_repair places tail ∷ []) (number_in_repairing answer) (tail' ≡ tail)
 
-abbrev pub WordRefuses : List ℕ → List ℕ → Repairing → List ℕ → Type 0
+abbrev pub WordRefuses : List ℕ → List ℕ → Result ℕ Refusal → List ℕ → Type 0
 WordRefuses word places answer word' =
     Refuses (wrong_size 42 word ∷ bad_erasure places ∷ no_repair places (drop 28 word) ∷ []) (number_in_repairing answer) (word' ≡ word)
 
 -- a word's tail made: 5
-abbrev pub MakingRefuses : List ℕ → Writing → List ℕ → Type 0
+abbrev pub MakingRefuses : List ℕ → Result Unit Refusal → List ℕ → Type 0
 MakingRefuses word answer word' = Refuses (wrong_size 42 word ∷ []) (number_in_writing answer) (word' ≡ word)
 
 -- encoding: 5, 4
-abbrev pub EncodingRefuses : List ℕ → List ℕ → List ℕ → Writing → List ℕ → Type 0
+abbrev pub EncodingRefuses : List ℕ → List ℕ → List ℕ → Result Unit Refusal → List ℕ → Type 0
 EncodingRefuses table payload envelope answer envelope' =
     Refuses (wrong_size 20 payload ∷ wrong_size 48 envelope ∷ not_admitted table ∷ []) (number_in_writing answer) (envelope' ≡ envelope)
 
--- decoding, hard or soft, by what it hears in a word: 5, 4, 6. Of a refusal nothing but the number comes back: the payload is all zero
-abbrev pub DecodingRefuses : List ℕ → List ℕ → (List ℕ → Outcome) → Decoded → Type 0
+-- decoding, hard or soft, by what it hears in a word: 5, 4, 6. Of a refusal nothing but the number comes back: it has no payload, and `payload_in` gives zeros
+abbrev pub DecodingRefuses : List ℕ → List ℕ → (List ℕ → Outcome) → Result Speech Refusal → Type 0
 DecodingRefuses table envelope hears r =
-    Refuses (wrong_size 48 envelope ∷ not_admitted table ∷ no_speech (hears (descrambled envelope)) ∷ []) (number_in_decoding r.decoding) (r.payload ≡ no_payload)
+    Refuses (wrong_size 48 envelope ∷ not_admitted table ∷ no_speech (hears (descrambled envelope)) ∷ []) (number_in_decoding r) (payload_in r ≡ no_payload)
 
 -- a soft push, beside `hard`
 abbrev pub soft : ℕ → ℕ → ℕ → Input
@@ -278,14 +268,14 @@ abbrev pub MergeStepRefuses : MergeRecorder → List ℕ → MergeStepped → Li
 MergeStepRefuses r out a out' = Refuses (small_memory merge_need out ∷ []) (number_in_push a.answer) (Unmerged r out a out')
 
 -- the merger: 7, 8, late, 9. Late is an answer and no refusal, and nothing behind it is tested
-abbrev pub late : Clock → ℕ → Test
+abbrev pub late : Option ℕ → ℕ → Test
 late last offset = test 0 (is_late last offset)
 
-abbrev pub says_late : Keeping → Bool
-says_late keeping.Kept = false
-says_late keeping.Double = false
-says_late keeping.Late = true
-says_late (keeping.Refused r) = false
+abbrev pub says_late : Result Keeping Refusal → Bool
+says_late (Ok keeping.Kept) = false
+says_late (Ok keeping.Double) = false
+says_late (Ok keeping.Late) = true
+says_late (Err r) = false
 
 pub record MergerRefuses (m : Merger) (stream offset : ℕ) (r : AfterPush) : Type 0 where
   -- refused, the merger itself comes back
@@ -300,7 +290,7 @@ abbrev pub envelope_tests : Body → List ℕ → List Test
 envelope_tests (Frame figures) envelope = wrong_size 48 envelope ∷ []
 envelope_tests (Gap span) envelope = []
 
-abbrev pub WritingRefuses : Entry → List ℕ → List ℕ → Writing → List ℕ → Type 0
+abbrev pub WritingRefuses : Entry → List ℕ → List ℕ → Result Unit Refusal → List ℕ → Type 0
 WritingRefuses entry envelope bytes answer bytes' =
     Refuses (envelope_tests entry.body envelope ++ (bad_record bytes (allowed entry) ∷ [])) (number_in_writing answer) (bytes' ≡ bytes)
 
@@ -309,7 +299,7 @@ abbrev pub rules_in : List ℕ → Bool
 rules_in bytes = cond (eqb (get_or bytes 8 0) 0) (is_frame bytes) (eqb (get_or bytes 8 0) 1 && is_gap bytes)
 
 -- a reading has nothing that could change: a refusal holds the number alone
-abbrev pub ReadingRefuses : List ℕ → Reading → Type 0
+abbrev pub ReadingRefuses : List ℕ → Result Entry Refusal → Type 0
 ReadingRefuses bytes answer = number_in_reading answer ≡ first_number (bad_record bytes (rules_in bytes) ∷ [])
 
 -- ---- the calls
@@ -352,7 +342,7 @@ pub record Demand1 : Type 0 where
   pub merger_push : (m : Merger) (stream : ℕ) (figures : Head) (number : ℕ) (check : Bool) (r : AfterPush)
       → PushGave m (push_of stream (held_of figures number check) (view_of m)) r → MergerRefuses m stream figures.offset r
   -- journal
-  pub write : (entry : Entry) (envelope bytes : List ℕ) (answer : Writing) (bytes' : List ℕ)
+  pub write : (entry : Entry) (envelope bytes : List ℕ) (answer : Result Unit Refusal) (bytes' : List ℕ)
       → Wrote 64 entry envelope bytes answer bytes' → WritingRefuses entry envelope bytes answer bytes'
   pub read : (bytes : List ℕ) → ReadingRefuses bytes (read_of 64 bytes)
   -- tests 4, 11 and 10 compute what document 01 says in words: `Admitted`, `NotErasable`, `Repairs`. The call protected::admitted answers `admits`

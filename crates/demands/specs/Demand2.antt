@@ -2,21 +2,18 @@
 -- It speaks of what the calls promise: `voice_frame::encode` answers `encode_answer` and leaves `encode_leaves` in the lent envelope,
 -- `voice_frame::decode` answers `decode_answer`, `voice_soft::decode_soft` answers `soft_answer`.
 -- Assumes nothing.
-use Rattle.std.specs.Prelude.{Bool, true, false, List, ◌⊎◌, ◌≡◌, ℕ, ◌%◌, ◌<◌, ◌≤◌, length, get_or, set}
+use Rattle.std.specs.Prelude.{Bool, true, false, List, ◌⊎◌, ◌≡◌, ℕ, ◌%◌, ◌<◌, ◌≤◌, length, get_or, set, Result, Ok}
 use Rattle.bits.specs.Bit.{apart, Bytes}
-use Rattle.bits.specs.declared.Writing.TheVariants.{Written}
 use Rattle.coding_rules.specs.Scramble.{descrambled}
 use Rattle.protected_rules.specs.Table.{Admitted}
 use Rattle.protected_rules.specs.Word.{Payload}
 use Rattle.voice_rules.specs.declared.Stage.{Stage}
 use Rattle.voice_rules.specs.declared.Stage.TheVariants.{StageA}
-use Rattle.voice_rules.specs.declared.Decoded.{Decoded}
-use Rattle.voice_rules.specs.declared.Decoding.TheVariants.{Accepted}
-use Rattle.voice_rules.specs.Calls.{encode_answer, encode_leaves, decode_answer, soft_answer}
-
+use Rattle.bits.specs.declared.Refusal.{Refusal}
+use Rattle.voice_rules.specs.declared.Speech.{Speech}
+use Rattle.voice_rules.specs.Calls.{encode_answer, encode_leaves, payload_in, decode_answer, soft_answer}
 -- the answer that hands back a payload: the stage that accepted it, and the number of corrected bits that it reports
-abbrev pub accepted : Stage → ℕ → List ℕ → Decoded
-accepted stage corrected payload = record { decoding = Accepted stage corrected; payload = payload }
+pub use Rattle.voice_rules.specs.Calls.{accepted}
 
 -- a payload of 20 bytes with the top two bits of byte 19 zero: 158 bits
 abbrev pub cleared : List ℕ → List ℕ
@@ -31,7 +28,7 @@ pub record Differs (word received : List ℕ) (bits : ℕ) : Type 0 where
 pub record Demand2 : Type 0 where
   -- there are encoded payloads: with an admitted table, 20 bytes into 48 are never refused
   pub encodes : (table payload envelope : List ℕ) → Admitted table → length payload ≡ 20 → length envelope ≡ 48
-      → encode_answer table payload envelope ≡ Written
+      → encode_answer table payload envelope ≡ Ok tt
   -- "Every encoded 158-bit payload comes back with 0 corrections.": with either flag, whatever the lent envelope held before
   pub comes_back : (table payload : List ℕ) (alternate : Bool) (envelope : List ℕ) → Admitted table → Payload payload → length envelope ≡ 48
       → decode_answer table (encode_leaves table payload alternate envelope) ≡ accepted StageA 0 payload
@@ -61,7 +58,7 @@ pub record Demand2 : Type 0 where
 -- ---- the same of the calls themselves, made one after the other (crate demand_speech)
 
 -- A payload is encoded into a lent envelope, which then holds envelope', and decoded from there with the answer r.
-pub record EncodedAndDecoded (table payload : List ℕ) (alternate : Bool) (envelope envelope' : List ℕ) (r : Decoded) : Type 0 where
+pub record EncodedAndDecoded (table payload : List ℕ) (alternate : Bool) (envelope envelope' : List ℕ) (r : Result Speech Refusal) : Type 0 where
   -- the envelope holds the encoding with this flag; where encoding refuses, what it held before
   pub leaves : envelope' ≡ encode_leaves table payload alternate envelope
   pub answer : r ≡ decode_answer table envelope'
@@ -70,10 +67,10 @@ pub record EncodedAndDecoded (table payload : List ℕ) (alternate : Bool) (enve
 
 -- An envelope is decoded with the answer r, and its payload encoded with flag 0 into one lent envelope and with flag 1 into another, which then
 -- hold plain' and other'.
-pub record DecodedAndEncoded (table envelope plain other plain' other' : List ℕ) (r : Decoded) : Type 0 where
+pub record DecodedAndEncoded (table envelope plain other plain' other' : List ℕ) (r : Result Speech Refusal) : Type 0 where
   pub answer : r ≡ decode_answer table envelope
-  pub leaves_plain : plain' ≡ encode_leaves table r.payload false plain
-  pub leaves_other : other' ≡ encode_leaves table r.payload true other
+  pub leaves_plain : plain' ≡ encode_leaves table (payload_in r) false plain
+  pub leaves_other : other' ≡ encode_leaves table (payload_in r) true other
   -- where it is accepted, and both lent envelopes have 48 bytes, one of the two encodings is as near as r says
   pub has_encoding : (stage : Stage) (corrected : ℕ) (payload : List ℕ)
       → r ≡ accepted stage corrected payload → length plain ≡ 48 → length other ≡ 48

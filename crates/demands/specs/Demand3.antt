@@ -3,9 +3,8 @@
 -- back and with the answer that it promises. A feed ends with the first push that sends frames (`sync_call_rules::feed_is_pushes`), so what a push sends is
 -- handed out by the call that makes it.
 -- Assumes nothing.
-use Rattle.std.specs.Prelude.{true, false, List, [], ◌∷◌, ◌++◌, ◌≡◌, ℕ, suc, ◌+◌, ◌-◌, ◌*◌, ◌≤◌, ◌<◌, ◌^◌, pos, ◌+ℤ◌, length, get_or, take, drop}
+use Rattle.std.specs.Prelude.{true, false, List, [], ◌∷◌, ◌++◌, ◌≡◌, ℕ, suc, ◌+◌, ◌-◌, ◌*◌, ◌≤◌, ◌<◌, ◌^◌, pos, ◌+ℤ◌, length, get_or, take, drop, Ok}
 use Rattle.sync.specs.declared.Synchroniser.{Synchroniser}
-use Rattle.sync_inputs.specs.declared.Push.TheVariants.{Taken}
 use Rattle.sync.specs.View.{ValidSynchroniser, view}
 use Rattle.sync_inputs.specs.Answers.{answer_to}
 use Rattle.sync_call_rules.specs.Calls.{Call, History, state_of, accepted, Got, handed, stream_of, place_in, BeginsAt}
@@ -63,7 +62,7 @@ pub record Exact (bits : List ℕ) (p q k : ℕ) (earlier out : List Got) : Type
 pub record Searches (s : Synchroniser) (before after : List Call) : Type 0 where
   -- there are such streams: a push of a dibit up to 3, with room for frames, is taken where fewer than 2^40 were
   pub taken : (x : Input) (room : ℕ) → x.dibit ≤ 3 → 1296 ≤ room → (view (state_of s (before ++ after))).figures.taken < 2 ^ 40
-      → answer_to room x (view (state_of s (before ++ after))) ≡ Taken
+      → answer_to room x (view (state_of s (before ++ after))) ≡ Ok tt
   -- "No frame goes out before the push that brings bit Q+1151": while at most Q+1151 bits have come, whichever pushes `later` bring Q
   pub silent : (later : List Input) (q : ℕ) → FirstLock (stream (accepted (before ++ after) ++ later)) (place_in s before) q
       → length (stream_of (before ++ after)) ≤ q + 1151

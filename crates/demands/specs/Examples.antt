@@ -1,21 +1,19 @@
 -- Document 01, 'Settled examples': those marked with a star, each a line that reads like the document's.
 -- Assumes nothing.
-use Rattle.std.specs.Prelude.{Bool, true, false, List, [], ◌∷◌, map, ◌≡◌, ℕ, ◌+◌, ◌-◌, length, get_or, set, take, drop}
+use Rattle.std.specs.Prelude.{Bool, true, false, List, [], ◌∷◌, map, ◌≡◌, ℕ, ◌+◌, ◌-◌, length, get_or, set, take, drop, Some, Err}
 use Rattle.bits.specs.Bit.{digit, tab}
 use Rattle.bits.specs.Refusals.{number_of}
 use Rattle.bits.specs.declared.Refusal.{Refusal}
 use Rattle.bits.specs.declared.Refusal.TheVariants.{NoSpeech}
-use Rattle.bits.specs.declared.Writing.TheVariants as writing
 use Rattle.coding_rules.specs.Crc.{crc_of}
 use Rattle.coding_rules.specs.Scramble.{place, s, descrambled}
 use Rattle.field_rules.specs.Field.{product}
-use Rattle.merger_rules.specs.declared.Clock.TheVariants.{At}
 use Rattle.merger_rules.specs.Merging.{is_late, snapped}
 use Rattle.protected_rules.specs.Convolution.{convolved}
 use Rattle.protected_rules.specs.StandIn.{stand_in}
 use Rattle.protected_rules.specs.Table.{Admitted, count}
 use Rattle.sync_rules.specs.Matching.{matches, errors}
-use Rattle.voice_rules.specs.Calls.{encode_answer, decode_answer, soft_answer, answered, refused_by}
+use Rattle.voice_rules.specs.Calls.{encode_answer, decode_answer, soft_answer, answered}
 use Rattle.voice_rules.specs.Hard.{hard_trials}
 use Rattle.voice_rules.specs.Trial.{Trial, Outcome, silent, first_of}
 
@@ -58,9 +56,9 @@ only_at n places = tab n (λ i. count i places)
 
 -- no call that is lent a table, and all else in its right size, gives another answer than the refusal
 pub record TableRefused (table : List ℕ) (r : Refusal) : Type 0 where
-  pub encode : (payload envelope : List ℕ) → length payload ≡ 20 → length envelope ≡ 48 → encode_answer table payload envelope ≡ writing.Refused r
-  pub decode : (envelope : List ℕ) → length envelope ≡ 48 → decode_answer table envelope ≡ refused_by r
-  pub soft : (envelope rs : List ℕ) → length envelope ≡ 48 → soft_answer table envelope rs ≡ refused_by r
+  pub encode : (payload envelope : List ℕ) → length payload ≡ 20 → length envelope ≡ 48 → encode_answer table payload envelope ≡ Err r
+  pub decode : (envelope : List ℕ) → length envelope ≡ 48 → decode_answer table envelope ≡ Err r
+  pub soft : (envelope rs : List ℕ) → length envelope ≡ 48 → soft_answer table envelope rs ≡ Err r
 
 -- the eight hard trials are four of stages (a) to (c) and four joint ones, of (d): "(a) to (c) accept nothing" in an envelope whose word has
 -- these bytes 32 and 33
@@ -95,11 +93,11 @@ Holds (codes inputs outputs) = convolved stand_in (only_at 94 inputs) ≡ only_a
 Holds (entry i n) = get_or stand_in i 0 ≡ n
 Holds (admitted table) = Admitted table
 Holds (refusal table n) = (r : Refusal) × (number_of r ≡ n) × TableRefused table r
-Holds (late last offset is) = is_late (At last) offset ≡ is
-Holds (snaps above released) = (last : ℕ) → snapped (At last) (last + above) ≡ last + released
+Holds (late last offset is) = is_late (Some last) offset ≡ is
+Holds (snaps above released) = (last : ℕ) → snapped (Some last) (last + above) ≡ last + released
 Holds (joint a b) =
     Happens a b × ((table envelope : List ℕ) → OnlyJointLeft table envelope a b → decode_answer table envelope ≡ answered (jointly table envelope))
-Holds (jointless a b) = Happens a b × ((table envelope : List ℕ) → OnlyJointLeft table envelope a b → decode_answer table envelope ≡ refused_by NoSpeech)
+Holds (jointless a b) = Happens a b × ((table envelope : List ℕ) → OnlyJointLeft table envelope a b → decode_answer table envelope ≡ Err NoSpeech)
 
 abbrev pub starred : List Example
 starred =

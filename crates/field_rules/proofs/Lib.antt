@@ -2,3 +2,4 @@ pub mod Products
 pub mod TableRules
 pub mod Laws
 pub mod Textbook
+pub mod Rows

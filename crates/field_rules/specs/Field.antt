@@ -2,7 +2,7 @@
 -- A byte is a polynomial over GF(2): bit i is the coefficient of x^i. A sum is the xor of two bytes. A product is the polynomials'
 -- product, reduced by x^8 + x^4 + x^3 + x^2 + 1, which is 0x11d.
 -- Assumes nothing.
-use Rattle.std.specs.Prelude.{ℕ, zero, suc, ◌*◌, ◌/◌, ◌%◌, ◌<◌, ◌≡◌, Bool, cond, ltb, eqb}
+use Rattle.std.specs.Prelude.{List, [], ◌∷◌, ℕ, zero, suc, ◌*◌, ◌/◌, ◌%◌, ◌<◌, ◌≡◌, Bool, cond, ltb, eqb}
 use Rattle.std.specs.Int.Bits.{bit_xor}
 
 -- x times the polynomial: one shift, and the modulus taken off where x^8 has come up.
@@ -37,3 +37,9 @@ quotient a b = first_from (λ c. eqb (product c b) a) 256 0
 pub record Log (a r : ℕ) : Type 0 where
   pub small : r < 255
   pub rule : 0 < a → power r ≡ a
+
+-- a + k b, byte by byte, as far as both reach
+unfoldable pub add_scaled : List ℕ → ℕ → List ℕ → List ℕ
+add_scaled [] k b = []
+add_scaled (x ∷ xs) k [] = x ∷ xs
+add_scaled (x ∷ xs) k (y ∷ ys) = bit_xor x (product k y) ∷ add_scaled xs k ys

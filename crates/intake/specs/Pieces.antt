@@ -1,13 +1,11 @@
 -- A cursor over the pieces of a file, and what a read does to it.
 -- Assumes nothing.
-use Rattle.std.specs.Prelude.{◌≡◌, ◌⊎◌, Bool, true, false, List, ℕ, ◌*◌, ◌≤◌, ◌<◌, length}
-use Rattle.channels.specs.declared.reading.Intake.{Intake}
-use Rattle.channels.specs.declared.reading.Intake.TheVariants as read
-use Rattle.sync_inputs.specs.declared.Push.{Push}
-use Rattle.sync_inputs.specs.declared.Push.TheVariants.{Taken, Refused}
+use Rattle.std.specs.Prelude.{◌≡◌, ◌⊎◌, Bool, true, false, List, ℕ, ◌*◌, ◌≤◌, length, Option, Some, None, Result, Ok, Err}
+use Rattle.std.specs.declared.io.Error.{Error}
 use Rattle.intake.specs.declared.Going.{Going}
 use Rattle.intake.specs.declared.Going.TheVariants.{On, Ended, Broken}
 use Rattle.intake.specs.declared.Cursor.{Cursor}
+use Rattle.bits.specs.declared.Refusal.{Refusal}
 
 abbrev pub cursor_at : ℕ → ℕ → Going → Cursor
 cursor_at size from going = record { size = size; from = from; going = going }
@@ -17,11 +15,16 @@ is_on On = true
 is_on Ended = false
 is_on Broken = false
 
+abbrev pub is_broken : Going → Bool
+is_broken On = false
+is_broken Ended = false
+is_broken Broken = true
+
 -- what a step leaves of a stream: one whose bytes could not be written broke off, and a refused push ends it
-abbrev pub going_after : Bool → Push → Going
+abbrev pub going_after : Bool → Result Unit Refusal → Going
 going_after false answer = Broken
-going_after true Taken = On
-going_after true (Refused x) = Ended
+going_after true (Ok u) = On
+going_after true (Err x) = Ended
 
 -- beside another stream: the stream itself goes on as before, but where nothing can be written any more
 abbrev pub going_beside : Bool → Going → Going
@@ -34,10 +37,10 @@ pub record SoundCursor (c : Cursor) (buffer : List ℕ) : Type 0 where
   pub from : c.from ≤ 4 * c.size
 
 -- what a read gave is the next piece, from its first dibit on. An end is an end, and a failure none
-abbrev pub came_as : Intake → Cursor
-came_as (read.Bytes n) = cursor_at n 0 On
-came_as read.Ended = cursor_at 0 0 Ended
-came_as (read.Failed reason) = cursor_at 0 0 Broken
+abbrev pub came_as : Result (Option ℕ) Error → Cursor
+came_as (Ok (Some n)) = cursor_at n 0 On
+came_as (Ok None) = cursor_at 0 0 Ended
+came_as (Err reason) = cursor_at 0 0 Broken
 
 -- another piece was read: the stream went on, all dibits of the last one were used, and it begins with its first dibit
 pub record NewPiece (c r : Cursor) : Type 0 where

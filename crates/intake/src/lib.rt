@@ -6,15 +6,15 @@
 #![tactic(auto)]
 
 ghost use Rattle.std.specs.Prelude.{◌≡◌, true, ◌+◌, ◌*◌, ◌-◌, ◌≤◌, min, length};
-ghost use Rattle.intake.specs.Pieces.{cursor_at, is_on, going_after, going_beside, SoundCursor, RefilledBy, came_as};
+ghost use Rattle.intake.specs.Pieces.{cursor_at, is_on, is_broken, going_after, going_beside, SoundCursor, RefilledBy, came_as};
 
-use channels::{Desk, Intake, read_some};
-use std::io::{Read, Write};
+use bits::Refusal;
+use channels::{Desk, read_some};
+use std::io::{Error, Read, Write};
 use std::rt::Clock;
-use sync_inputs::Push;
 
 // Whether a stream goes on, has ended, or broke off: a read or a write has failed, and nothing may be written any more.
-#[derive(Clone, Copy)]
+#[derive(Clone, Copy, PartialEq, Eq)]
 pub enum Going {
     On,
     Ended,
@@ -51,30 +51,24 @@ pub fn opened() -> Cursor
 pub fn goes_on(going: Going) -> bool
     ensures { result ≡ is_on going }
 {
-    match going {
-        Going::On => true,
-        Going::Ended => false,
-        Going::Broken => false,
-    }
+    going == Going::On
 }
 
 // Tells whether a stream broke off.
-pub fn is_broken(going: Going) -> bool {
-    match going {
-        Going::On => false,
-        Going::Ended => false,
-        Going::Broken => true,
-    }
+pub fn is_broken(going: Going) -> bool
+    ensures { result ≡ is_broken going }
+{
+    going == Going::Broken
 }
 
 // Gives the cursor of a piece that a read gave: nothing of it is used.
-fn came(intake: Intake) -> Cursor
-    ensures { result ≡ came_as intake }
+fn came(read: Result<Option<usize>, Error>) -> Cursor
+    ensures { result ≡ came_as read }
 {
-    match intake {
-        Intake::Bytes(n) => piece_of(n, Going::On),
-        Intake::Ended => piece_of(0, Going::Ended),
-        Intake::Failed(_) => piece_of(0, Going::Broken),
+    match read {
+        Ok(Some(n)) => piece_of(n, Going::On),
+        Ok(None) => piece_of(0, Going::Ended),
+        Err(_) => piece_of(0, Going::Broken),
     }
 }
 
@@ -91,11 +85,7 @@ pub fn refilled<R: Read, W: Write, E: Write, C: Clock>(
     ensures sound { SoundCursor result buf.new }
     ensures kept { length buf.new ≡ length buf.old }
 {
-    let going = c.going;
-    if !goes_on(going) {
-        return c;
-    }
-    if c.from < 4 * c.size {
+    if !goes_on(c.going) || c.from < 4 * c.size {
         return c;
     }
     came(read_some(input, buf, desk))
@@ -104,7 +94,7 @@ pub fn refilled<R: Read, W: Write, E: Write, C: Clock>(
 // Tells whether a stream goes on behind a step: not where what it made could not be written, nor where a push was refused, which it says by its number.
 fn goes_behind<W: Write, E: Write, C: Clock>(
     written: bool,
-    answer: Push,
+    answer: Result<(), Refusal>,
     desk: &mut Desk<W, E, C>,
 ) -> Going
     ensures { result ≡ going_after written answer }
@@ -113,8 +103,8 @@ fn goes_behind<W: Write, E: Write, C: Clock>(
         return Going::Broken;
     }
     match answer {
-        Push::Taken => Going::On,
-        Push::Refused(refusal) => {
+        Ok(()) => Going::On,
+        Err(refusal) => {
             texts_printing::print_error(lines::refusal_line(refusal), desk);
             Going::Ended
         }
@@ -126,24 +116,17 @@ pub fn advanced<W: Write, E: Write, C: Clock>(
     c: Cursor,
     used: usize,
     written: bool,
-    answer: Push,
+    answer: Result<(), Refusal>,
     desk: &mut Desk<W, E, C>,
 ) -> Cursor
     requires { c.from + used ≤ 16384 }
     ensures { result ≡ cursor_at c.size (c.from + used) (going_after written answer) }
 {
     Cursor {
-        size: c.size,
         from: c.from + used,
         going: goes_behind(written, answer, desk),
+        ..c
     }
-}
-
-// Gives the smaller of two.
-fn least(a: usize, b: usize) -> usize
-    ensures { result ≡ min a b }
-{
-    if a < b { a } else { b }
 }
 
 // Tells whether a stream goes on beside another one: as before, but where what was made of both could not be written.
@@ -160,10 +143,9 @@ pub fn beside(c: Cursor, used: usize, written: bool) -> Cursor
     ensures { result ≡ cursor_at c.size (c.from + min used (4 * c.size - c.from)) (going_beside written c.going) }
 {
     let left = 4 * c.size - c.from;
-    let going = c.going;
     Cursor {
-        size: c.size,
-        from: c.from + least(used, left),
-        going: goes_beside(written, going),
+        from: c.from + used.min(left),
+        going: goes_beside(written, c.going),
+        ..c
     }
 }

@@ -5,5 +5,5 @@
 
 pub use journal_gaps::gap_to;
 pub use journal_reading::read;
-pub use journal_rules::{Between, Body, Earlier, Entry, Figures, Outcome, Reading, Tried};
+pub use journal_rules::{Body, Entry, Figures, Outcome, Tried};
 pub use journal_writing::write;

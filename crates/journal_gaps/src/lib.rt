@@ -7,31 +7,18 @@ ghost use Rattle.std.specs.Prelude.{◌≡◌};
 ghost use Rattle.journal_rules.specs.Gaps.{gap_to};
 
 use bits::FRAME_BITS;
-use journal_rules::{Between, Body, Earlier, Entry};
+use journal_rules::{Body, Entry};
 
-// Gives the gap between a frame at `next` and the one before it at `earlier`: none where these lie at most 384 bits apart.
-fn gap_after(earlier: u64, next: u64) -> Between
-    ensures { result ≡ gap_to (Earlier.At earlier) next }
-{
-    if next <= earlier {
-        return Between::NoGap;
-    }
-    let apart = next - earlier;
-    if apart <= FRAME_BITS {
-        return Between::NoGap;
-    }
-    Between::Gap(Entry {
-        offset: earlier + FRAME_BITS,
-        body: Body::Gap(apart - FRAME_BITS),
-    })
-}
-
-// Gives the gap to write before a frame at the offset `next`, or none.
-pub fn gap_to(earlier: Earlier, next: u64) -> Between
+// Gives the gap to write before a frame at the offset `next`: none where there is no frame before it, or where that one ends there or later.
+pub fn gap_to(earlier: Option<u64>, next: u64) -> Option<Entry>
     ensures { result ≡ gap_to earlier next }
 {
-    match earlier {
-        Earlier::Nothing => Between::NoGap,
-        Earlier::At(offset) => gap_after(offset, next),
+    let end = earlier?.checked_add(FRAME_BITS)?;
+    if next <= end {
+        return None;
     }
+    Some(Entry {
+        offset: end,
+        body: Body::Gap(next - end),
+    })
 }

@@ -1,5 +1,6 @@
 -- The journal of a list of frames leaves no break.
 -- Assumes nothing.
+use Rattle.std.proofs.Common.{Some}
 use mathlib.Core.Bool.{Bool, true, false, cond, ◌&&◌, and-false}
 use mathlib.Core.List.{List, [], ◌∷◌, ◌++◌}
 use mathlib.Core.Path.{◌≡◌, refl, ap, ap₂, ◌∙◌}
@@ -8,29 +9,28 @@ use native.Mathlib.Nat.{le_refl, zero-add}
 use native.Mathlib.Omega.{arith}
 use lib.Dec.{ltb, leb}
 use borrow.Author.Tests.{ltb-true, ltb-false, le-ltb, le-leb, lt-leb}
-use Rattle.journal_rules.specs.declared.Body.TheVariants.{Frame, Gap}
-use Rattle.journal_rules.specs.declared.Earlier.TheVariants.{At}
-use Rattle.journal_rules.specs.Record.{entry_at, end_of, fair, allowed}
+use Rattle.journal_rules.specs.declared.Body.TheVariants.{Frame}
+use Rattle.journal_rules.specs.Record.{end_of, fair, allowed}
 use Rattle.journal_rules.specs.Gaps.{Framed, Piece, piece_of, gap_after, gap_to, gap_pieces, pieces_from, pieces_of, pieces_alone, frames_in, covering, Spaced, Follow, last_of, AllFair, AllAllowed}
 
 -- ---- by the one test of a gap
 
 module _ (P : List Piece → Type 0) (o next : ℕ) (rest : List Piece) where
   gap_cases : (o + 384 < next → P (record { entry = gap_after o next; envelope = [] } ∷ rest)) → (next ≤ o + 384 → P rest)
-      → P (gap_pieces (gap_to (At o) next) ++ rest)
+      → P (gap_pieces (gap_to (Some o) next) ++ rest)
   gap_cases yes-gap no_gap = go (ltb (o + 384) next) refl
     where
-      go : (t : Bool) → ltb (o + 384) next ≡ t → P (gap_pieces (gap_to (At o) next) ++ rest)
+      go : (t : Bool) → ltb (o + 384) next ≡ t → P (gap_pieces (gap_to (Some o) next) ++ rest)
       go true e = rw e (yes-gap (ltb-true (o + 384) next e))
       go false e = rw e (no_gap (ltb-false (o + 384) next e))
 
 -- ---- each starts where the one before it ends
 
-follow_from : (o : ℕ) (fs : List Framed) → Spaced o fs → Follow (o + 384) (pieces_from (At o) fs)
+follow_from : (o : ℕ) (fs : List Framed) → Spaced o fs → Follow (o + 384) (pieces_from (Some o) fs)
 unfolding pieces_from
 follow_from o [] s = tt
 follow_from o (f ∷ fs) s =
-    gap_cases (Follow (o + 384)) o f.place (piece_of f ∷ pieces_from (At f.place) fs)
+    gap_cases (Follow (o + 384)) o f.place (piece_of f ∷ pieces_from (Some f.place) fs)
     (λ h. (refl, (omega arith, follow_from f.place fs s.1)))
     (λ h. (omega arith, follow_from f.place fs s.1))
 
@@ -82,11 +82,11 @@ cover_once start x [] h k l = absurd (omega arith)
 cover_once start x (p ∷ ps) h k l =
     cover_cons x p ps (omega (arith, h.0)) (λ g. cover_before (end_of p.entry) x ps h.1 g) (λ g. cover_once (end_of p.entry) x ps h.1 g l)
 
-end_from : (o : ℕ) (fs : List Framed) → Spaced o fs → end_after (o + 384) (pieces_from (At o) fs) ≡ last_of o fs + 384
+end_from : (o : ℕ) (fs : List Framed) → Spaced o fs → end_after (o + 384) (pieces_from (Some o) fs) ≡ last_of o fs + 384
 unfolding pieces_from
 end_from o [] s = refl
 end_from o (f ∷ fs) s =
-    gap_cases (λ (ps : List Piece). end_after (o + 384) ps ≡ last_of f.place fs + 384) o f.place (piece_of f ∷ pieces_from (At f.place) fs)
+    gap_cases (λ (ps : List Piece). end_after (o + 384) ps ≡ last_of f.place fs + 384) o f.place (piece_of f ∷ pieces_from (Some f.place) fs)
     (λ h. end_from f.place fs s.1)
     (λ h. end_from f.place fs s.1)
 
@@ -106,11 +106,11 @@ module _ (f : Framed) (fs : List Framed) (s : Spaced f.place fs) (x : ℕ) where
 
 -- ---- the frames stand in it unchanged
 
-unchanged_from : (o : ℕ) (fs : List Framed) → frames_in (pieces_from (At o) fs) ≡ pieces_alone fs
+unchanged_from : (o : ℕ) (fs : List Framed) → frames_in (pieces_from (Some o) fs) ≡ pieces_alone fs
 unfolding pieces_from frames_in pieces_alone
 unchanged_from o [] = refl
 unchanged_from o (f ∷ fs) =
-    gap_cases (λ (ps : List Piece). frames_in ps ≡ piece_of f ∷ pieces_alone fs) o f.place (piece_of f ∷ pieces_from (At f.place) fs)
+    gap_cases (λ (ps : List Piece). frames_in ps ≡ piece_of f ∷ pieces_alone fs) o f.place (piece_of f ∷ pieces_from (Some f.place) fs)
     (λ h. ap (λ (ps : List Piece). piece_of f ∷ ps) (unchanged_from f.place fs))
     (λ h. ap (λ (ps : List Piece). piece_of f ∷ ps) (unchanged_from f.place fs))
 
@@ -128,13 +128,13 @@ last_ge o (f ∷ fs) s = omega (arith, s.0, last_ge f.place fs s.1)
 frame_allowed : (f : Framed) → fair (Frame f.figures) ≡ true → f.place + 384 ≤ 2 ^ 42 → allowed (piece_of f).entry ≡ true
 frame_allowed f h l = ap₂ ◌&&◌ h (le-leb (f.place + 384) (2 ^ 42) l)
 
-writable_from : (o : ℕ) (fs : List Framed) → Spaced o fs → AllFair fs → last_of o fs + 384 ≤ 2 ^ 42 → AllAllowed (pieces_from (At o) fs)
+writable_from : (o : ℕ) (fs : List Framed) → Spaced o fs → AllFair fs → last_of o fs + 384 ≤ 2 ^ 42 → AllAllowed (pieces_from (Some o) fs)
 unfolding pieces_from
 writable_from o [] s g l = tt
 writable_from o (f ∷ fs) s g l =
     let top : f.place ≤ last_of f.place fs = last_ge f.place fs s.1 in
-    let rest : AllAllowed (piece_of f ∷ pieces_from (At f.place) fs) = (frame_allowed f g.0 (omega arith), writable_from f.place fs s.1 g.1 l) in
-    gap_cases AllAllowed o f.place (piece_of f ∷ pieces_from (At f.place) fs)
+    let rest : AllAllowed (piece_of f ∷ pieces_from (Some f.place) fs) = (frame_allowed f g.0 (omega arith), writable_from f.place fs s.1 g.1 l) in
+    gap_cases AllAllowed o f.place (piece_of f ∷ pieces_from (Some f.place) fs)
     (λ h. (ap₂ ◌&&◌ (le-leb 1 (f.place - (o + 384)) (omega arith)) (le-leb (o + 384 + (f.place - (o + 384))) (2 ^ 42) (omega arith)), rest))
     (λ h. rest)
 

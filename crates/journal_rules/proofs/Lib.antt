@@ -1,5 +1,5 @@
-pub mod Filling
 pub mod Gapless
+pub mod Numbers
 pub mod Readings
 pub mod Records
 pub mod RoundTrips

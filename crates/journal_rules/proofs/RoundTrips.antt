@@ -1,5 +1,6 @@
 -- One meaning has one record: what is written reads back, and what reads is what would be written. Theorems about the definitions alone.
 -- Assumes nothing.
+use Rattle.std.proofs.Common.{Result, Ok, Err}
 use mathlib.Core.Bool.{Bool, true, false, cond, ◌&&◌}
 use mathlib.Core.List.{List, [], ◌∷◌, ◌++◌}
 use mathlib.Core.Path.{◌≡◌, refl, sym, ap, ap₂, ◌∙◌, subst}
@@ -24,7 +25,6 @@ use Rattle.journal_rules.specs.declared.Figures.{Figures}
 use Rattle.journal_rules.specs.declared.Body.{Body}
 use Rattle.journal_rules.specs.declared.Body.TheVariants.{Frame, Gap}
 use Rattle.journal_rules.specs.declared.Entry.{Entry}
-use Rattle.journal_rules.specs.declared.Reading.TheVariants.{Holds, Refused}
 use Rattle.journal_rules.specs.Record.{bit_of, outcome_number, size_fits, allowed, may_correct, record_of, entry_at}
 use Rattle.journal_rules.specs.Reading.{outcome_at, all_zero, offset_in, length_in, figures_in, is_gap, is_frame, read_gap, read_frame, read_of, envelope_in}
 use Rattle.journal_rules.specs.Statements.{UnreadBy}
@@ -33,15 +33,15 @@ use Rattle.journal_rules.proofs.Readings.{unread, gap_in, frame_in, read_by, fra
 
 -- ---- what is written reads back
 
-gap_back : (o n : ℕ) (envelope : List ℕ) → allowed (entry_at o (Gap n)) ≡ true → read_of 64 (record_of (entry_at o (Gap n)) envelope) ≡ Holds (entry_at o (Gap n))
+gap_back : (o n : ℕ) (envelope : List ℕ) → allowed (entry_at o (Gap n)) ≡ true → read_of 64 (record_of (entry_at o (Gap n)) envelope) ≡ Ok (entry_at o (Gap n))
 unfolding big_endian
 gap_back o n envelope h =
     let tests = both_true (leb 1 n) (leb (o + n) (2 ^ 42)) h in
     let ends : o + n ≤ 2 ^ 42 = leb-true (o + n) (2 ^ 42) tests.1 in
     let first : value_of (big_endian 8 o) ≡ o = value_big 8 o (omega arith) in
     let second : value_of (big_endian 8 n) ≡ n = value_big 8 n (omega arith) in
-    ap₂ (λ (x y : ℕ). cond (allowed (entry_at x (Gap y))) (Holds (entry_at x (Gap y))) unread) first second
-    ∙ ap (λ (b : Bool). cond b (Holds (entry_at o (Gap n))) unread) h
+    ap₂ (λ (x y : ℕ). cond (allowed (entry_at x (Gap y))) (Ok (entry_at x (Gap y))) unread) first second
+    ∙ ap (λ (b : Bool). cond b (Ok (entry_at o (Gap n))) unread) h
 
 bit_back : (b : Bool) → eqb (bit_of b) 1 ≡ b
 bit_back true = refl
@@ -62,7 +62,7 @@ outcome_le Accepted = omega arith
 outcome_le RefusedFrame = omega arith
 
 frame_back : (o : ℕ) (f : Figures) (envelope : List ℕ) → length envelope ≡ 48 → allowed (entry_at o (Frame f)) ≡ true
-    → read_of 64 (record_of (entry_at o (Frame f)) envelope) ≡ Holds (entry_at o (Frame f))
+    → read_of 64 (record_of (entry_at o (Frame f)) envelope) ≡ Ok (entry_at o (Frame f))
 unfolding big_endian
 frame_back o f envelope l h =
     let r : List ℕ = record_of (entry_at o (Frame f)) envelope in
@@ -74,13 +74,13 @@ frame_back o f envelope l h =
     let good : allowed (frame_in r) ≡ true = ap₂ (λ (x : ℕ) (g : Figures). allowed (entry_at x (Frame g))) first all ∙ h in
     sym (read_by 64 r true true false (eq-eqb (length r) 64 (omega arith)) refl refl)
     ∙ sym (frame_yes r (bit_le f.matched) (outcome_le f.outcome) refl good)
-    ∙ ap₂ (λ (x : ℕ) (g : Figures). Holds (entry_at x (Frame g))) first all
+    ∙ ap₂ (λ (x : ℕ) (g : Figures). Ok (entry_at x (Frame g))) first all
 
 pub written_reads : (e : Entry) (envelope : List ℕ) → size_fits e.body (length envelope) ≡ true → allowed e ≡ true
-    → read_of 64 (record_of e envelope) ≡ Holds e
+    → read_of 64 (record_of e envelope) ≡ Ok e
 written_reads e envelope = go e.offset e.body
   where
-    go : (o : ℕ) (b : Body) → size_fits b (length envelope) ≡ true → allowed (entry_at o b) ≡ true → read_of 64 (record_of (entry_at o b) envelope) ≡ Holds (entry_at o b)
+    go : (o : ℕ) (b : Body) → size_fits b (length envelope) ≡ true → allowed (entry_at o b) ≡ true → read_of 64 (record_of (entry_at o b) envelope) ≡ Ok (entry_at o b)
     go o (Frame f) s h = frame_back o f envelope (eqb-true (length envelope) 48 s) h
     go o (Gap n) s h = gap_back o n envelope h
 
@@ -142,30 +142,30 @@ data Says (r : List ℕ) (e : Entry) : Type 0 where
   frame : length r ≡ 64 → get_or r 8 0 ≡ 0 → is_frame r ≡ true → frame_in r ≡ e → Says r e
   gap : length r ≡ 64 → get_or r 8 0 ≡ 1 → is_gap r ≡ true → gap_in r ≡ e → Says r e
 
-held : (a b : Entry) → Holds a ≡ Holds b → a ≡ b
+held : (a b : Entry) → ◌≡◌ {A = Result Entry Refusal} (Ok a) (Ok b) → a ≡ b
 held a b e = cc
 
-never : (e : Entry) → unread ≡ Holds e → ⊥
+never : (e : Entry) → unread ≡ Ok e → ⊥
 never e p = let z : ◌≡◌ {A = ℕ} 0 1 = cc in omega arith
 
-says : (r : List ℕ) (e : Entry) → read_of 64 r ≡ Holds e → Says r e
+says : (r : List ℕ) (e : Entry) → read_of 64 r ≡ Ok e → Says r e
 says r e = go (eqb (length r) 64) (eqb (get_or r 8 0) 0) (eqb (get_or r 8 0) 1) refl refl refl
   where
-    by_frame : length r ≡ 64 → get_or r 8 0 ≡ 0 → (g : Bool) → is_frame r ≡ g → cond g (Holds (frame_in r)) unread ≡ Holds e → Says r e
+    by_frame : length r ≡ 64 → get_or r 8 0 ≡ 0 → (g : Bool) → is_frame r ≡ g → cond g (Ok (frame_in r)) unread ≡ Ok e → Says r e
     by_frame l k true g q = frame l k g (held (frame_in r) e q)
     by_frame l k false g q = absurd (never e q)
 
-    by_gap : length r ≡ 64 → get_or r 8 0 ≡ 1 → (g : Bool) → is_gap r ≡ g → cond g (Holds (gap_in r)) unread ≡ Holds e → Says r e
+    by_gap : length r ≡ 64 → get_or r 8 0 ≡ 1 → (g : Bool) → is_gap r ≡ g → cond g (Ok (gap_in r)) unread ≡ Ok e → Says r e
     by_gap l k true g q = gap l k g (held (gap_in r) e q)
     by_gap l k false g q = absurd (never e q)
 
-    go : (s k g : Bool) → eqb (length r) 64 ≡ s → eqb (get_or r 8 0) 0 ≡ k → eqb (get_or r 8 0) 1 ≡ g → cond s (cond k (read_frame r) (cond g (read_gap r) unread)) unread ≡ Holds e → Says r e
+    go : (s k g : Bool) → eqb (length r) 64 ≡ s → eqb (get_or r 8 0) 0 ≡ k → eqb (get_or r 8 0) 1 ≡ g → cond s (cond k (read_frame r) (cond g (read_gap r) unread)) unread ≡ Ok e → Says r e
     go true true g p q t m = by_frame (eqb-true (length r) 64 p) (eqb-true (get_or r 8 0) 0 q) (is_frame r) refl m
     go true false true p q t m = by_gap (eqb-true (length r) 64 p) (eqb-true (get_or r 8 0) 1 t) (is_gap r) refl m
     go true false false p q t m = absurd (never e m)
     go false k g p q t m = absurd (never e m)
 
-pub read_written : (r : List ℕ) → Bytes r → (e : Entry) → read_of 64 r ≡ Holds e → r ≡ record_of e (envelope_in e.body r)
+pub read_written : (r : List ℕ) → Bytes r → (e : Entry) → read_of 64 r ≡ Ok e → r ≡ record_of e (envelope_in e.body r)
 read_written r h e q = go (says r e q)
   where
     go : Says r e → r ≡ record_of e (envelope_in e.body r)
@@ -174,14 +174,14 @@ read_written r h e q = go (says r e q)
         (frame_is r h l k t ∙ ap (record_of (frame_in r)) (sym (take_all 48 (drop 16 r) (simp length-drop (omega arith)))))
     go (gap l k t p) = subst (λ (x : Entry). r ≡ record_of x (envelope_in x.body r)) p (gap_is r h l [] k t)
 
-pub read_allowed : (r : List ℕ) (e : Entry) → read_of 64 r ≡ Holds e → allowed e ≡ true
+pub read_allowed : (r : List ℕ) (e : Entry) → read_of 64 r ≡ Ok e → allowed e ≡ true
 read_allowed r e q = go (says r e q)
   where
     go : Says r e → allowed e ≡ true
     go (frame l k t p) = subst (λ (x : Entry). allowed x ≡ true) p (both_true (leb (get_or r 9 0) 1 && leb (get_or r 11 0) 2 && all_zero (take 3 (drop 13 r))) (allowed (frame_in r)) t).1
     go (gap l k t p) = subst (λ (x : Entry). allowed x ≡ true) p (both_true (all_zero (take 7 (drop 9 r)) && all_zero (take 40 (drop 24 r))) (allowed (gap_in r)) t).1
 
-pub one_record : (r s : List ℕ) → Bytes r → Bytes s → (e : Entry) → read_of 64 r ≡ Holds e → read_of 64 s ≡ Holds e
+pub one_record : (r s : List ℕ) → Bytes r → Bytes s → (e : Entry) → read_of 64 r ≡ Ok e → read_of 64 s ≡ Ok e
     → envelope_in e.body r ≡ envelope_in e.body s → r ≡ s
 one_record r s hr hs e p q v = read_written r hr e p ∙ ap (record_of e) v ∙ sym (read_written s hs e q)
 
@@ -194,20 +194,20 @@ envelope_lies o f envelope l = take_all 48 envelope (omega arith)
 pub unread_twelve : (size : ℕ) (r : List ℕ) → (length r ≡ size → ⊥) → UnreadBy 12 (read_of size r)
 unread_twelve size r n = subst (UnreadBy 12) (read_by size r false _ _ (ne_eqb (length r) size n) refl refl) refl
 
-pub only_twelve : (size : ℕ) (r : List ℕ) (x : Refusal) → read_of size r ≡ Refused x → number_of x ≡ 12
+pub only_twelve : (size : ℕ) (r : List ℕ) (x : Refusal) → read_of size r ≡ Err x → number_of x ≡ 12
 only_twelve size r x = go (eqb (length r) size) (eqb (get_or r 8 0) 0) (eqb (get_or r 8 0) 1)
   where
-    known : unread ≡ Refused x → number_of x ≡ 12
+    known : unread ≡ Err x → number_of x ≡ 12
     known p = let e : Record ≡ x = cc in ap number_of (sym e)
 
-    held_not : (e : Entry) → Holds e ≡ Refused x → number_of x ≡ 12
+    held_not : (e : Entry) → Ok e ≡ Err x → number_of x ≡ 12
     held_not e p = let z : ◌≡◌ {A = ℕ} 0 1 = cc in absurd (omega arith)
 
-    by : (g : Bool) (e : Entry) → cond g (Holds e) unread ≡ Refused x → number_of x ≡ 12
+    by : (g : Bool) (e : Entry) → cond g (Ok e) unread ≡ Err x → number_of x ≡ 12
     by true e p = held_not e p
     by false e p = known p
 
-    go : (s k g : Bool) → cond s (cond k (read_frame r) (cond g (read_gap r) unread)) unread ≡ Refused x → number_of x ≡ 12
+    go : (s k g : Bool) → cond s (cond k (read_frame r) (cond g (read_gap r) unread)) unread ≡ Err x → number_of x ≡ 12
     go true true g p = by (is_frame r) (frame_in r) p
     go true false true p = by (is_gap r) (gap_in r) p
     go true false false p = known p

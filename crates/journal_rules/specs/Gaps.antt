@@ -1,16 +1,12 @@
 -- Document 01, 'Journal': "A gap is written where two successive frames' offsets differ by more than 384: from the earlier offset plus 384
 -- up to the later offset." The whole list of entries of a list of frames, and what it is for entries to leave no break.
 -- Assumes nothing.
-use Rattle.std.specs.Prelude.{Bool, true, false, cond, ◌&&◌, List, [], ◌∷◌, ◌++◌, ◌≡◌, ℕ, ◌+◌, ◌-◌, ◌≤◌, ltb, leb}
+use Rattle.std.specs.Prelude.{Bool, true, false, cond, ◌&&◌, List, [], ◌∷◌, ◌++◌, ◌≡◌, ℕ, ◌+◌, ◌-◌, ◌≤◌, ltb, leb, Option, Some, None}
 use Rattle.bits.specs.Sizes.{frame_bits}
 use Rattle.journal_rules.specs.declared.Figures.{Figures}
 use Rattle.journal_rules.specs.declared.Body.{Body}
 use Rattle.journal_rules.specs.declared.Body.TheVariants.{Frame, Gap}
 use Rattle.journal_rules.specs.declared.Entry.{Entry}
-use Rattle.journal_rules.specs.declared.Earlier.{Earlier}
-use Rattle.journal_rules.specs.declared.Earlier.TheVariants.{Nothing, At}
-use Rattle.journal_rules.specs.declared.Between.{Between}
-use Rattle.journal_rules.specs.declared.Between.TheVariants.{NoGap, Gap as OneGap}
 use Rattle.journal_rules.specs.Record.{entry_at, end_of, fair, allowed}
 
 -- a frame to be written: its offset, its figures and its envelope
@@ -32,23 +28,23 @@ abbrev pub gap_after : ℕ → ℕ → Entry
 gap_after o next = entry_at (o + frame_bits) (Gap (next - (o + frame_bits)))
 
 -- the gap before a frame at the offset `next`; before the first frame there is none
-abbrev pub gap_to : Earlier → ℕ → Between
-gap_to Nothing next = NoGap
-gap_to (At o) next = cond (ltb (o + frame_bits) next) (OneGap (gap_after o next)) NoGap
+abbrev pub gap_to : Option ℕ → ℕ → Option Entry
+gap_to None next = None
+gap_to (Some o) next = cond (ltb (o + frame_bits) next) (Some (gap_after o next)) None
 
 -- it as entries: one, with no envelope, or none
-abbrev pub gap_pieces : Between → List Piece
-gap_pieces NoGap = []
-gap_pieces (OneGap e) = record { entry = e; envelope = [] } ∷ []
+abbrev pub gap_pieces : Option Entry → List Piece
+gap_pieces None = []
+gap_pieces (Some e) = record { entry = e; envelope = [] } ∷ []
 
 -- the entries of frames that follow an earlier one
-unfoldable pub pieces_from : Earlier → List Framed → List Piece
+unfoldable pub pieces_from : Option ℕ → List Framed → List Piece
 pieces_from earlier [] = []
-pieces_from earlier (f ∷ fs) = gap_pieces (gap_to earlier f.place) ++ (piece_of f ∷ pieces_from (At f.place) fs)
+pieces_from earlier (f ∷ fs) = gap_pieces (gap_to earlier f.place) ++ (piece_of f ∷ pieces_from (Some f.place) fs)
 
 -- the whole journal of a list of frames
 abbrev pub pieces_of : List Framed → List Piece
-pieces_of fs = pieces_from Nothing fs
+pieces_of fs = pieces_from None fs
 
 -- ---- what is claimed of it
 

@@ -1,16 +1,15 @@
 -- Document 01, 'Journal': the record of an entry, the rules it keeps, and what a write answers and leaves.
 -- Assumes nothing.
-use Rattle.std.specs.Prelude.{Bool, true, false, cond, ◌&&◌, List, ◌∷◌, ◌++◌, ◌≡◌, ℕ, ◌+◌, leb, eqb, length, replicate}
+use Rattle.std.specs.Prelude.{Bool, true, false, cond, ◌&&◌, List, ◌∷◌, ◌++◌, ◌≡◌, ℕ, ◌+◌, leb, eqb, length, replicate, Result, Ok, Err}
 use Rattle.bits.specs.Sizes.{frame_bits, most_offset}
 use Rattle.bits.specs.BigEndian.{big_endian}
 use Rattle.bits.specs.declared.Refusal.TheVariants.{Size, Record}
-use Rattle.bits.specs.declared.Writing.{Writing}
-use Rattle.bits.specs.declared.Writing.TheVariants.{Written, Refused}
 use Rattle.journal_rules.specs.declared.Outcome.{Outcome}
 use Rattle.journal_rules.specs.declared.Outcome.TheVariants.{Untried, Accepted, Refused as RefusedFrame}
 use Rattle.journal_rules.specs.declared.Body.{Body}
 use Rattle.journal_rules.specs.declared.Body.TheVariants.{Frame, Gap}
 use Rattle.journal_rules.specs.declared.Entry.{Entry}
+use Rattle.bits.specs.declared.Refusal.{Refusal}
 
 abbrev pub entry_at : ℕ → Body → Entry
 entry_at o b = record { offset = o; body = b }
@@ -70,19 +69,19 @@ size_fits (Gap n) m = true
 -- ---- writing, for records of `size` bytes
 
 -- "the journal 5, 12": the size of the envelope, then the length of the record and the rules
-abbrev pub write_answer : ℕ → Entry → List ℕ → List ℕ → Writing
+abbrev pub write_answer : ℕ → Entry → List ℕ → List ℕ → Result Unit Refusal
 write_answer size e envelope room =
-    cond (size_fits e.body (length envelope)) (cond (eqb (length room) size && allowed e) Written (Refused Record)) (Refused Size)
+    cond (size_fits e.body (length envelope)) (cond (eqb (length room) size && allowed e) (Ok tt) (Err Record)) (Err Size)
 
 -- what an answer leaves of the record
-abbrev pub left_by : Writing → List ℕ → List ℕ → List ℕ
-left_by Written new old = new
-left_by (Refused x) new old = old
+abbrev pub left_by : Result Unit Refusal → List ℕ → List ℕ → List ℕ
+left_by (Ok u) new old = new
+left_by (Err x) new old = old
 
 abbrev pub write_leaves : ℕ → Entry → List ℕ → List ℕ → List ℕ
 write_leaves size e envelope room = left_by (write_answer size e envelope room) (record_of e envelope) room
 
 -- what is promised of a write: one answer and one content of the record
-pub record Wrote (size : ℕ) (e : Entry) (envelope before : List ℕ) (answer : Writing) (after : List ℕ) : Type 0 where
+pub record Wrote (size : ℕ) (e : Entry) (envelope before : List ℕ) (answer : Result Unit Refusal) (after : List ℕ) : Type 0 where
   pub answered : answer ≡ write_answer size e envelope before
   pub left : after ≡ write_leaves size e envelope before

@@ -6,28 +6,27 @@ ghost use Rattle.lines_rules.specs.Text.{slip_text, slips_end_text};
 
 use crate::listing::end_words;
 use sync_rules::{Head, Moves};
-use texts::{Line, empty, with_number, with_signed, with_word};
+use texts::{Line, Text};
 
 // Makes the line of a frame's moves in bits, of its front, its second and its third segment: `slip OFFSET FRONT SECOND THIRD`.
 pub fn slip_line(offset: u64, front: i64, second: i64, third: i64) -> Line
     ensures { result ≡ line_of (slip_text offset front second third) }
 {
-    let l0 = empty();
-    let l1 = with_word(l0, b"slip");
-    let l2 = with_number(l1, offset);
-    let l3 = with_signed(l2, front);
-    let l4 = with_signed(l3, second);
-    let l5 = with_signed(l4, third);
-    with_word(l5, b"\n")
+    Text::new()
+        .word(b"slip")
+        .number(offset)
+        .signed(front)
+        .signed(second)
+        .signed(third)
+        .word(b"\n")
+        .line()
 }
 
 // Makes the last line: `end FRAMES SLIPS NETSLIP`, the net slip in bits and with its sign.
 pub fn slips_end_line(frames: u64, slips: u64, net: i64) -> Line
     ensures { result ≡ line_of (slips_end_text frames slips net) }
 {
-    let words = end_words(frames, slips);
-    let counts = with_signed(words, net);
-    with_word(counts, b"\n")
+    end_words(frames, slips).signed(net).word(b"\n").line()
 }
 
 // Tells whether one of a frame's three moves is not zero.
@@ -45,10 +44,10 @@ pub fn slip_of(head: Head) -> Line
     if has_move(moves) {
         return slip_line(
             head.offset,
-            moves.front as i64,
-            moves.second as i64,
-            moves.third as i64,
+            i64::from(moves.front),
+            i64::from(moves.second),
+            i64::from(moves.third),
         );
     }
-    empty()
+    Text::new().line()
 }

@@ -5,26 +5,26 @@ ghost use Rattle.texts_rules.specs.Text.{line_of};
 ghost use Rattle.lines_rules.specs.Text.{speech_text, refused_text};
 
 use crate::listing::refused_line;
-use bits::{Refusal, number_of, wide};
-use texts::{Line, empty, hex_of, with_number, with_word};
+use bits::Refusal;
+use texts::{Line, Text, hex_of};
 
 // Makes the line of a frame's speech: `speech OFFSET CORRECTED PAYLOAD`, the payload in 40 hexadecimal digits.
 pub fn speech_line(offset: u64, corrected: u64, payload: [u8; 20]) -> Line
     ensures { result ≡ line_of (speech_text offset corrected payload) }
 {
-    let l0 = empty();
-    let l1 = with_word(l0, b"speech");
-    let l2 = with_number(l1, offset);
-    let l3 = with_number(l2, corrected);
-    let l4 = with_word(l3, b" ");
-    let digits = hex_of(payload);
-    let l5 = with_word(l4, &digits);
-    with_word(l5, b"\n")
+    Text::new()
+        .word(b"speech")
+        .number(offset)
+        .number(corrected)
+        .word(b" ")
+        .word(&hex_of(payload))
+        .word(b"\n")
+        .line()
 }
 
 // Makes the line of a frame that is no speech: `refused OFFSET NUMBER`, the refusal's number.
 pub fn refused_frame_line(offset: u64, refusal: Refusal) -> Line
     ensures { result ≡ line_of (refused_text offset (number_of refusal)) }
 {
-    refused_line(offset, wide(number_of(refusal)) as u64)
+    refused_line(offset, u64::from(u8::from(refusal)))
 }

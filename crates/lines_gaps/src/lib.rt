@@ -8,32 +8,27 @@ ghost use Rattle.texts_rules.specs.Text.{line_of};
 ghost use Rattle.journal_rules.specs.Gaps.{gap_to};
 ghost use Rattle.lines_rules.specs.Entries.{listed_body, between_text};
 
-use bits::wide;
 use journal_gaps::gap_to;
-use journal_rules::{Between, Body, Earlier};
+use journal_rules::Body;
 use lines::{frame_line, gap_line};
-use texts::{Line, empty};
+use texts::{Line, Text};
 
 // Makes the line of an entry at an offset as `listing` prints it: a frame's ends behind its errors.
 fn listed_body(offset: u64, body: Body) -> Line
     ensures { result ≡ line_of (listed_body offset body) }
 {
     match body {
-        Body::Frame(f) => frame_line(offset, f.matched, wide(f.errors) as u64),
+        Body::Frame(f) => frame_line(offset, f.matched, u64::from(f.errors)),
         Body::Gap(n) => gap_line(offset, n),
     }
 }
 
 // Makes the line of the gap before a frame at the offset `next`; where there is none an empty line, which prints nothing.
-pub fn gap_before(earlier: Earlier, next: u64) -> Line
+pub fn gap_before(earlier: Option<u64>, next: u64) -> Line
     ensures { result ≡ line_of (between_text (gap_to earlier next)) }
 {
-    let between = gap_to(earlier, next);
-    match between {
-        Between::NoGap => empty(),
-        Between::Gap(entry) => {
-            let body = entry.body;
-            listed_body(entry.offset, body)
-        }
+    match gap_to(earlier, next) {
+        None => Text::new().line(),
+        Some(entry) => listed_body(entry.offset, entry.body),
     }
 }

@@ -1,8 +1,7 @@
 -- The lines of one frame, by what is wanted.
 -- Assumes nothing.
-use Rattle.std.specs.Prelude.{List, [], ℕ}
+use Rattle.std.specs.Prelude.{List, [], ℕ, Option}
 use Rattle.journal_rules.specs.Gaps.{gap_to}
-use Rattle.journal_rules.specs.declared.Earlier.{Earlier}
 use Rattle.lines_rules.specs.Entries.{between_text}
 use Rattle.lines_rules.specs.Slips.{slip_line_text}
 use Rattle.lines_rules.specs.Text.{frame_text}
@@ -11,7 +10,7 @@ use Rattle.lines_laying.specs.declared.Wanted.{Wanted}
 use Rattle.lines_laying.specs.declared.Wanted.TheVariants.{Listing, Slips}
 
 -- the line of the gap before a frame at the offset `next`; the slips have none
-abbrev pub wanted_gap : Wanted → Earlier → ℕ → List ℕ
+abbrev pub wanted_gap : Wanted → Option ℕ → ℕ → List ℕ
 wanted_gap Listing earlier next = between_text (gap_to earlier next)
 wanted_gap Slips earlier next = []
 

@@ -8,15 +8,14 @@ ghost use Rattle.std.proofs.lemmas.List.Edits.{sets};
 ghost use Rattle.texts_rules.specs.Text.{line_of};
 ghost use Rattle.lines_laying.specs.Wants.{wanted_gap, wanted_line};
 
-use journal_rules::Earlier;
 use lines::{frame_line, slip_of};
 use lines_gaps::gap_before;
 use sync_rules::Head;
-use texts::empty;
+use texts::Text;
 use texts_rules::Line;
 
 // Says which lines are wanted: one for each frame and each gap, or one for each frame that moved.
-#[derive(Clone, Copy)]
+#[derive(Clone, Copy, Debug, PartialEq, Eq)]
 pub enum Wanted {
     Listing,
     Slips,
@@ -29,23 +28,18 @@ pub fn put_line(line: Line, at: usize, out: &mut [u8]) -> usize
     ensures end { (t : List ℕ) → line ≡ line_of t → result ≡ at + length t }
     ensures stored { (t : List ℕ) → line ≡ line_of t → out.new ≡ sets out.old at t }
 {
-    let size = line.size;
-    let bytes = line.bytes;
-    let mut j = 0;
-    while j < size {
-        out[at + j] = bytes[j];
-        j += 1;
-    }
-    at + size
+    let end = at + line.size;
+    out[at..end].copy_from_slice(&line.bytes[..line.size]);
+    end
 }
 
 // Makes the line of the gap before a frame at the offset `next`, as a listing has it; where there is none, and of the slips, an empty line.
-pub fn wanted_gap(wanted: Wanted, earlier: Earlier, next: u64) -> Line
+pub fn wanted_gap(wanted: Wanted, earlier: Option<u64>, next: u64) -> Line
     ensures { result ≡ line_of (wanted_gap wanted earlier next) }
 {
     match wanted {
         Wanted::Listing => gap_before(earlier, next),
-        Wanted::Slips => empty(),
+        Wanted::Slips => Text::new().line(),
     }
 }
 
@@ -54,7 +48,7 @@ pub fn wanted_line(wanted: Wanted, head: Head) -> Line
     ensures { result ≡ line_of (wanted_line wanted head) }
 {
     match wanted {
-        Wanted::Listing => frame_line(head.offset, head.matched, head.errors as u64),
+        Wanted::Listing => frame_line(head.offset, head.matched, u64::from(head.errors)),
         Wanted::Slips => slip_of(head),
     }
 }

@@ -1,5 +1,6 @@
 -- How long a line's text is at most: a number has at most twenty digits.
 -- Assumes nothing.
+use Rattle.std.proofs.Common.{Option, Some, None, Result, Ok, Err}
 use mathlib.Core.Bool.{Bool}
 use mathlib.Core.List.{List, [], ◌∷◌, ◌++◌}
 use mathlib.Core.Path.{◌≡◌, refl}
@@ -12,15 +13,11 @@ use Rattle.bits.proofs.Conds.{cond_cases}
 use Rattle.bits.proofs.Tabs.{length_tab}
 use Rattle.bits.specs.Refusals.{number_of}
 use Rattle.journal_rules.specs.Record.{bit_of}
-use Rattle.journal_rules.specs.declared.Between.{Between}
-use Rattle.journal_rules.specs.declared.Between.TheVariants.{NoGap, Gap as OneGap}
 use Rattle.journal_rules.specs.declared.Body.{Body}
 use Rattle.journal_rules.specs.declared.Body.TheVariants.{Frame, Gap}
 use Rattle.journal_rules.specs.declared.Figures.{Figures}
 use Rattle.journal_rules.specs.declared.Outcome.{Outcome}
 use Rattle.journal_rules.specs.declared.Outcome.TheVariants.{Untried, Accepted, Refused as RefusedFrame}
-use Rattle.journal_rules.specs.declared.Reading.{Reading}
-use Rattle.journal_rules.specs.declared.Reading.TheVariants.{Holds, Refused}
 use Rattle.sync_rules.specs.declared.Head.{Head}
 use Rattle.texts_rules.specs.Decimal.{decimal_in, signed_decimal}
 use Rattle.texts_rules.specs.Text.{hex_at, line_of}
@@ -28,6 +25,8 @@ use Rattle.texts_rules.specs.declared.Line.{Line}
 use Rattle.lines_rules.specs.Text.{frame_text, gap_text, end_text, slip_text, slips_end_text, refused_text, speech_text}
 use Rattle.lines_rules.specs.Entries.{listed_body, between_text, outcome_words, figures_text, shown_body, shown_as}
 use Rattle.lines_rules.specs.Slips.{has_move, slip_line_text}
+use Rattle.bits.specs.declared.Refusal.{Refusal}
+use Rattle.journal_rules.specs.declared.Entry.{Entry}
 
 digits_few : (k n : ℕ) → length (decimal_in k n) ≤ k
 unfolding decimal_in
@@ -58,23 +57,9 @@ pub listed_short : (offset : ℕ) (body : Body) → length (listed_body offset b
 listed_short offset (Frame f) = frame_short offset f.matched f.errors
 listed_short offset (Gap n) = omega (arith, gap_short offset n)
 
-pub between_short : (b : Between) → length (between_text b) ≤ 69
-between_short NoGap = omega arith
-between_short (OneGap e) = listed_short e.offset e.body
-
-pub end_short : (a b c : ℕ) → length (end_text a b c) ≤ 68
-end_short a b c =
-    let k = digits_few 20 a in
-    let m = digits_few 20 b in
-    let n = digits_few 20 c in
-    simp length-append (omega arith)
-
-pub slips_end_short : (frames slips : ℕ) (net : ℤ) → length (slips_end_text frames slips net) ≤ 69
-slips_end_short frames slips net =
-    let k = digits_few 20 frames in
-    let m = digits_few 20 slips in
-    let n = signed_few net in
-    simp length-append (omega arith)
+pub between_short : (b : Option Entry) → length (between_text b) ≤ 69
+between_short None = omega arith
+between_short (Some e) = listed_short e.offset e.body
 
 pub refused_short : (first second : ℕ) → length (refused_text first second) ≤ 50
 refused_short first second =
@@ -128,6 +113,6 @@ body_short : (offset : ℕ) (b : Body) → ShortText (shown_body offset b).line
 body_short offset (Frame f) = record { text = figures_text offset f; has = refl; few = figures_short offset f }
 body_short offset (Gap n) = record { text = gap_text offset n; has = refl; few = omega (arith, gap_short offset n) }
 
-pub shown_short : (x : Reading) (number : ℕ) → ShortText (shown_as x number).line
-shown_short (Holds e) number = body_short e.offset e.body
-shown_short (Refused x) number = record { text = refused_text (number_of x) number; has = refl; few = omega (arith, refused_short (number_of x) number) }
+pub shown_short : (x : Result Entry Refusal) (number : ℕ) → ShortText (shown_as x number).line
+shown_short (Ok e) number = body_short e.offset e.body
+shown_short (Err x) number = record { text = refused_text (number_of x) number; has = refl; few = omega (arith, refused_short (number_of x) number) }

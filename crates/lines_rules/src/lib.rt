@@ -10,7 +10,7 @@ ghost use Rattle.lines_rules.specs.Statements.{CutRecords};
 use texts_rules::Line;
 
 // What a journal's record turned out to be: `show` counts frames and gaps, and stops at what is no record.
-#[derive(Clone, Copy)]
+#[derive(Clone, Copy, Debug, PartialEq, Eq)]
 pub enum What {
     AFrame,
     AGap,
@@ -18,7 +18,7 @@ pub enum What {
 }
 
 // A record's line, with what the record is.
-#[derive(Clone, Copy)]
+#[derive(Clone, Copy, Debug, PartialEq, Eq)]
 pub struct Shown {
     pub what: What,
     pub line: Line,

@@ -11,10 +11,8 @@ use std::rt::{Env, Files};
 // Opens the file that argument i names; where that fails, it says so with the system's reason on standard error.
 fn open_argument<F: Files + Env, E: Write>(i: usize, rt: &F, errors: &mut E) -> Result<F::File> {
     let mut name = io::buffer();
-    match channels::argument(rt, i, &mut name) {
-        Some(n) => channels::open(rt, &name[..n], errors),
-        None => channels::open(rt, b"", errors),
-    }
+    let n = channels::argument(rt, i, &mut name).unwrap_or(0);
+    channels::open(rt, &name[..n], errors)
 }
 
 // Reads the table, opens both recordings and merges them; where one of the three is missing, nothing is merged.

@@ -1,18 +1,17 @@
 -- The start, a step that is refused, the bytes of a step from its first dibit on, and the flush.
 -- Assumes nothing.
+use Rattle.std.proofs.Common.{Some, None, Ok, Err}
 use mathlib.Core.Path.{◌≡◌, refl, sym, ap, ap₂, subst, ◌∙◌}
 use mathlib.Core.Logic.{inr}
 use mathlib.Core.Bool.{Bool, true, false}
 use mathlib.Core.List.{List, [], ◌∷◌}
 use Prim.Native.Nat.{ℕ, zero, suc, ◌+◌, ◌-◌, ◌*◌, ◌/◌, ◌%◌, ◌≤◌, ◌<◌, min}
 use native.Mathlib.Omega.{arith}
-use lib.ListN.{length, take, drop, replicate, length-drop, length-replicate}
+use lib.ListN.{length, take, drop, replicate, length-drop}
 use lib.Seq.{sets, take_all, drop-nil}
 use Rattle.bits.specs.Alls.{All}
 use Rattle.bits.specs.declared.Refusal.TheVariants.{FrameRoom}
 use Rattle.bits.proofs.Conds.{cond_lt, cond_ge}
-use Rattle.journal_rules.specs.declared.Earlier.TheVariants.{Nothing}
-use Rattle.journal_rules.specs.declared.Tried.{Tried}
 use Rattle.merge_recorder_rules.specs.Statements.{MergeFresh}
 use Rattle.merge_recorder_rules.specs.Steps.{Going, ValidMerge, merge_need, flushed_in, MergeSteppedBy, MergeFlushedBy}
 use Rattle.merge_recorder_rules.specs.declared.MergeRecorder.{MergeRecorder}
@@ -21,28 +20,28 @@ use Rattle.merger.specs.States.{ValidMerger, view_of as merger_view}
 use Rattle.merger.specs.declared.Merger.{Merger}
 use Rattle.merger_rules.specs.Merging.{View, release_of}
 use Rattle.merger_rules.specs.Scripts.{started}
-use Rattle.merger_rules.specs.declared.Clock.TheVariants.{Absent, At}
 use Rattle.merging_rules.specs.Accounts.{told_of, most_told, Idle}
 use Rattle.merging_rules.specs.Piles.{Pile, Handed, empty_shelf, all_released}
 use Rattle.merging_rules.specs.Turns.{walk, flushed}
-use Rattle.merging_rules.specs.Works.{pile_of, last_written, bytes_of, MovedBy, reserved, FairTried, StorablePosition, ValidWork}
+use Rattle.merging_rules.specs.Works.{pile_of, last_written, bytes_of, MovedBy, reserved, FairSlot, StorablePosition, ValidWork}
 use Rattle.merging_rules.specs.declared.Work.{Work}
 use Rattle.merging_rules.proofs.Handing.{bytes_none, times_told}
 use Rattle.merging_rules.proofs.Idling.{idle_empty, all_out}
+use Rattle.merging_shelf.specs.Slots.{shelf_slots, empty_slot, taken_in}
 use Rattle.merging_shelf.specs.declared.Shelf.{Shelf}
+use Rattle.merging_shelf.specs.declared.Slot.{Slot}
 use Rattle.merging_shelf.proofs.Shelving.{empty_shelved, none_used}
-use Rattle.recorder_rules.specs.Makings.{Trying, untried}
+use Rattle.recorder_rules.specs.Makings.{Trying}
 use Rattle.recorder_rules.specs.Steps.{dibits_of, laid_none}
 use Rattle.recorder_rules.specs.declared.Laid.{Laid}
 use Rattle.sync.specs.View.{view, ValidSynchroniser}
 use Rattle.sync.specs.declared.Synchroniser.{Synchroniser}
 use Rattle.sync_inputs.specs.Inputs.{hardly, unpacked}
-use Rattle.sync_inputs.specs.declared.Push.TheVariants.{Taken, Refused}
 use Rattle.sync_rules.specs.State.{State, Input, start}
 
 -- ---- too little memory
 
-pub step_refused : (try : Trying) (out : List ℕ) (xs : List Input) (over : Bool) (ys : List Input) (ended : Bool) (r : MergeRecorder) → length out < merge_need → (s : MergeStepped) → s ≡ record { used = 0; size = 0; answer = Refused FrameRoom; next = r }
+pub step_refused : (try : Trying) (out : List ℕ) (xs : List Input) (over : Bool) (ys : List Input) (ended : Bool) (r : MergeRecorder) → length out < merge_need → (s : MergeStepped) → s ≡ record { used = 0; size = 0; answer = Err FrameRoom; next = r }
     → MergeSteppedBy try out out xs over ys ended r s
 unfolding walk last_written
 step_refused try out xs over ys ended r small s e =
@@ -59,7 +58,7 @@ step_refused try out xs over ys ended r small s e =
       stored = sym (ap (sets out 0) (bytes_none r.earlier));
     })
 
-pub flush_refused : (out : List ℕ) (r : MergeRecorder) → length out < merge_need → (s : MergeStepped) → s ≡ record { used = 0; size = 0; answer = Refused FrameRoom; next = r } → MergeFlushedBy out out r s
+pub flush_refused : (out : List ℕ) (r : MergeRecorder) → length out < merge_need → (s : MergeStepped) → s ≡ record { used = 0; size = 0; answer = Err FrameRoom; next = r } → MergeFlushedBy out out r s
 unfolding last_written
 flush_refused out r small s e =
     let p = pile_of r.work in
@@ -75,7 +74,7 @@ flush_refused out r small s e =
       stored = sym (ap (λ (h : Handed). sets out 0 (bytes_of r.earlier h.out)) none ∙ ap (sets out 0) (bytes_none r.earlier));
     })
 
-pub still_valid : (r : MergeRecorder) → ValidMerge r → (s : MergeStepped) → s ≡ record { used = 0; size = 0; answer = Refused FrameRoom; next = r } → ValidMerge s.next
+pub still_valid : (r : MergeRecorder) → ValidMerge r → (s : MergeStepped) → s ≡ record { used = 0; size = 0; answer = Err FrameRoom; next = r } → ValidMerge s.next
 still_valid r v s e = subst (λ (z : MergeStepped). ValidMerge z.next) (sym e) v
 
 -- ---- the bytes from a dibit on
@@ -121,10 +120,10 @@ stepped_from try out left primary alternate from start a b over ended r s e f m 
 
 -- ---- the flush
 
-module _ (r : MergeRecorder) (v : ValidMerge r) (out left : List ℕ) (large : merge_need ≤ length out) (none lay : Laid) (e : none ≡ laid_none r.earlier) (w : Work) (m : MovedBy (all_released Absent Absent true (pile_of r.work)) out left none w lay) (valid : ValidWork w) (few : reserved w lay ≤ reserved r.work none)
-    (idle : Idle Absent Absent true w.merger) (s : MergeStepped) (es : s ≡ record { used = 0; size = lay.size; answer = Taken; next = record { first = r.first; second = r.second; work = w; earlier = lay.earlier } }) where
-  moved : MovedBy (all_released Absent Absent true (pile_of r.work)) out left (laid_none r.earlier) w lay
-  moved = subst (λ (z : Laid). MovedBy (all_released Absent Absent true (pile_of r.work)) out left z w lay) e m
+module _ (r : MergeRecorder) (v : ValidMerge r) (out left : List ℕ) (large : merge_need ≤ length out) (none lay : Laid) (e : none ≡ laid_none r.earlier) (w : Work) (m : MovedBy (all_released None None true (pile_of r.work)) out left none w lay) (valid : ValidWork w) (few : reserved w lay ≤ reserved r.work none)
+    (idle : Idle None None true w.merger) (s : MergeStepped) (es : s ≡ record { used = 0; size = lay.size; answer = (Ok tt); next = record { first = r.first; second = r.second; work = w; earlier = lay.earlier } }) where
+  moved : MovedBy (all_released None None true (pile_of r.work)) out left (laid_none r.earlier) w lay
+  moved = subst (λ (z : Laid). MovedBy (all_released None None true (pile_of r.work)) out left z w lay) e m
 
   pub flushed_by : MergeFlushedBy out left r s
   flushed_by =
@@ -148,13 +147,13 @@ module _ (r : MergeRecorder) (v : ValidMerge r) (out left : List ℕ) (large : m
         first = v.first;
         second = v.second;
         work = valid;
-        told = omega (arith, v.told, ap (λ (z : Pile). told_of z.answered) moved.pile, ap told_of (times_told Absent Absent true 16 (pile_of r.work)));
-        idle = idle_empty w.merger valid.accounted.valid (At r.first.numbers.figures.clock) (At r.second.numbers.figures.clock) false (all_out w.merger valid.accounted.valid Absent Absent idle);
+        told = omega (arith, v.told, ap (λ (z : Pile). told_of z.answered) moved.pile, ap told_of (times_told None None true 16 (pile_of r.work)));
+        idle = idle_empty w.merger valid.accounted.valid (Some r.first.numbers.figures.clock) (Some r.second.numbers.figures.clock) false (all_out w.merger valid.accounted.valid None None idle);
       })
 
 -- ---- the start
 
-all_fair : (n : ℕ) (t : Tried) → FairTried t → All FairTried (replicate n t)
+all_fair : (n : ℕ) (t : Slot) → FairSlot t → All FairSlot (replicate n t)
 all_fair zero t f = tt
 all_fair (suc n) t f = (f, all_fair n t f)
 
@@ -166,7 +165,7 @@ module _ (x y : Synchroniser) (m : Merger) (shelf : Shelf) (ex : view x ≡ star
   work = record { merger = m; shelf = shelf; answered = record { kept = 0; late = 0; double = 0; refused = 0 }; gone = record { released = 0; others = 0; passed = 0 } }
 
   abbrev recorder : MergeRecorder
-  recorder = record { first = x; second = y; work = work; earlier = Nothing }
+  recorder = record { first = x; second = y; work = work; earlier = None }
 
   pub fresh : MergeFresh recorder
   fresh =
@@ -179,25 +178,23 @@ module _ (x y : Synchroniser) (m : Merger) (shelf : Shelf) (ex : view x ≡ star
   pub fresh_valid : ValidMerger m → Going x.bits x.reliabilities x.numbers → Going y.bits y.reliabilities y.numbers → ValidMerge recorder
   fresh_valid v a b =
       let none = ap (λ (z : View). z.pending) em in
-      let taken = ap (λ (z : Shelf). z.taken) es in
-      let shelved = empty_shelved shelf.taken (merger_view m).pending taken none in
+      let taken = ap taken_in es in
+      let shelved = empty_shelved (taken_in shelf) (merger_view m).pending taken none in
       record {
         first = a;
         second = b;
         work = record {
           accounted = record {
             valid = v;
-            slots = ap length taken ∙ length-replicate {A = Bool} 33 false;
+            slots = ap length taken;
             shelved = shelved;
-            balance = omega (arith, none_used shelf.taken (merger_view m).pending shelved (ap length none));
+            balance = omega (arith, none_used (taken_in shelf) (merger_view m).pending shelved (ap length none));
           };
           storable = subst (λ (z : View). All StorablePosition z.pending) (sym em) tt;
-          fair = subst (λ (z : Shelf). All FairTried z.tried) (sym es) (all_fair 33 (untried []) refl);
-          tried = ap (λ (z : Shelf). length z.tried) es ∙ length-replicate {A = Tried} 33 (untried []);
-          envelopes = ap (λ (z : Shelf). length z.envelopes) es ∙ length-replicate {A = ℕ} 1584 0;
+          fair = subst (λ (z : Shelf). All FairSlot z.slots) (sym es) (all_fair shelf_slots empty_slot (record { tried = refl; envelope = refl }));
         };
         told = omega arith;
-        idle = ap (λ (z : View). (release_of (At x.numbers.figures.clock) (At y.numbers.figures.clock) false z).answer) em;
+        idle = ap (λ (z : View). (release_of (Some x.numbers.figures.clock) (Some y.numbers.figures.clock) false z).answer) em;
       }
 
 -- frames told are few

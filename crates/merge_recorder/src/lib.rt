@@ -13,25 +13,19 @@ ghost use Rattle.merge_recorder_rules.specs.Steps.{ValidMerge, MergeSteppedBy, M
 ghost use Rattle.recorder_rules.specs.Steps.{dibits_of};
 
 use bits::Refusal;
-use journal_rules::Earlier;
 pub use merge_recorder_rules::{MergeRecorder, MergeStepped};
 use merge_recorder_steps::{TURN_NEED, nothing_laid, stepped, turns};
 use merger::Merger;
-use merger_rules::Clock;
-use merging_releasing::release_all;
+use merging_releasing::{Moved, release_all};
 use merging_rules::{Answered, Gone, Work};
 use merging_shelf::empty;
-use sync::{Push, Synchroniser};
+use sync::Synchroniser;
 
 // Gives a recorder of which nothing is recorded.
 pub fn start() -> MergeRecorder
     ensures merge_fresh { MergeFresh result }
     ensures valid { ValidMerge result }
 {
-    let first = Synchroniser::new();
-    let second = Synchroniser::new();
-    let merger = Merger::new();
-    let shelf = empty();
     let answered = Answered {
         kept: 0,
         late: 0,
@@ -43,28 +37,27 @@ pub fn start() -> MergeRecorder
         others: 0,
         passed: 0,
     };
-    let work = Work {
-        merger,
-        shelf,
-        answered,
-        gone,
-    };
     MergeRecorder {
-        first,
-        second,
-        work,
-        earlier: Earlier::Nothing,
+        first: Synchroniser::new(),
+        second: Synchroniser::new(),
+        work: Work {
+            merger: Merger::new(),
+            shelf: empty(),
+            answered,
+            gone,
+        },
+        earlier: None,
     }
 }
 
 // Refuses a step for which too little memory is lent.
 fn refused(r: MergeRecorder) -> MergeStepped
-    ensures { result ≡ record { used = 0; size = 0; answer = Push.Refused FrameRoom; next = r } }
+    ensures { result ≡ record { used = 0; size = 0; answer = Err FrameRoom; next = r } }
 {
     MergeStepped {
         used: 0,
         size: 0,
-        answer: Push::Refused(Refusal::FrameRoom),
+        answer: Err(Refusal::FrameRoom),
         next: r,
     }
 }
@@ -73,8 +66,7 @@ fn refused(r: MergeRecorder) -> MergeStepped
 fn whole_bytes(from: usize, size: usize) -> usize
     ensures { result ≡ min (from / 4) size }
 {
-    let before = from / 4;
-    if before < size { before } else { size }
+    (from / 4).min(size)
 }
 
 // Takes packed dibits of the primary from dibit `from` on and of the alternate from dibit `start` on, turn by turn, and lays the records of the frames that are
@@ -121,13 +113,10 @@ pub fn flush(r: MergeRecorder, out: &mut [u8]) -> MergeStepped
     if out.len() < TURN_NEED {
         return refused(r);
     }
-    let before = r.work;
-    let earlier = r.earlier;
-    let none = nothing_laid(earlier);
-    let moved = release_all(before, none, Clock::Absent, Clock::Absent, true, out);
-    let work = moved.work;
-    let laid = moved.laid;
-    let first = r.first;
-    let second = r.second;
-    stepped(0, laid, first, second, work)
+    let before = Moved {
+        work: r.work,
+        laid: nothing_laid(r.earlier),
+    };
+    let moved = release_all(before, None, None, true, out);
+    stepped(0, moved, r.first, r.second)
 }

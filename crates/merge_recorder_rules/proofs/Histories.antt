@@ -1,5 +1,6 @@
 -- Histories of steps over two streams, cut anywhere and apart from each other.
 -- Assumes nothing.
+use Rattle.std.proofs.Common.{Option, None}
 use mathlib.Core.Path.{◌≡◌, refl, sym, ap, ap₂, ◌∙◌}
 use mathlib.Core.Logic.{◌⊎◌, inl, inr, ⊎_elim}
 use mathlib.Core.Bool.{Bool, true, false}
@@ -10,8 +11,6 @@ use lib.ListN.{length, take, drop, length-append, length-drop}
 use lib.Seq.{sets, sets-eq, take_at, take-append-le, drop-append-le, drop-drop}
 use Rattle.bits.proofs.Conds.{cond_ge}
 use Rattle.journal_rules.specs.Gaps.{Framed}
-use Rattle.journal_rules.specs.declared.Earlier.{Earlier}
-use Rattle.journal_rules.specs.declared.Earlier.TheVariants.{Nothing}
 use Rattle.merging_rules.specs.Piles.{Handed}
 use Rattle.merging_rules.specs.Turns.{Both, Turned, walk, flushed, walked}
 use Rattle.merging_rules.specs.Works.{pile_of, last_written, bytes_of}
@@ -99,8 +98,8 @@ gone try r xs ys (c ∷ cs) h t =
     record {
       turns = n + u;
       both = g.both ∙ ap (λ (z : Turned). z.both) moved ∙ sym a.both;
-      earlier = g.earlier ∙ ap₂ (λ (e : Earlier) (z : Turned). last_written e z.out) wrote moved ∙ sym (ap (last_written r.earlier) a.out ∙ last_more r.earlier W.out then.out);
-      bytes = ap₂ (λ (x y : List ℕ). x ++ y) here (g.bytes ∙ ap₂ (λ (e : Earlier) (z : Turned). bytes_of e z.out) wrote moved) ∙ sym (ap (bytes_of r.earlier) a.out ∙ bytes_more r.earlier W.out then.out);
+      earlier = g.earlier ∙ ap₂ (λ (e : Option ℕ) (z : Turned). last_written e z.out) wrote moved ∙ sym (ap (last_written r.earlier) a.out ∙ last_more r.earlier W.out then.out);
+      bytes = ap₂ (λ (x y : List ℕ). x ++ y) here (g.bytes ∙ ap₂ (λ (e : Option ℕ) (z : Turned). bytes_of e z.out) wrote moved) ∙ sym (ap (bytes_of r.earlier) a.out ∙ bytes_more r.earlier W.out then.out);
       rest = g.rest ∙ drop-drop u n xs;
       other = g.other ∙ drop-drop u n ys;
       few = further (length xs) (length ys) n u
@@ -123,12 +122,12 @@ merge_records_lem try r fresh cs h xs ys t e f out left large a m =
     let stood : both_of s ≡ W.both = g.both ∙ ap (λ (z : Turned). z.both) went in
     let pile : pile_of s.work ≡ W.both.pile = ap (λ (b : Both). b.pile) stood in
     let all : flushed_in (length out) (pile_of s.work) ≡ flushed W.both.pile = cond_ge {A = Handed} (length out) merge_need _ _ large ∙ ap flushed pile in
-    let wrote : s.earlier ≡ last_written Nothing W.out = g.earlier ∙ ap₂ (λ (d : Earlier) (z : Turned). last_written d z.out) fresh.earlier went in
+    let wrote : s.earlier ≡ last_written None W.out = g.earlier ∙ ap₂ (λ (d : Option ℕ) (z : Turned). last_written d z.out) fresh.earlier went in
     let F = (flushed W.both.pile).out in
-    let same : bytes_of s.earlier (flushed_in (length out) (pile_of s.work)).out ≡ bytes_of (last_written Nothing W.out) F = ap₂ (λ (d : Earlier) (z : Handed). bytes_of d z.out) wrote all in
-    let here : take a.size left ≡ bytes_of (last_written Nothing W.out) F
-    = ap (take a.size) (m.stored ∙ ap (sets out 0) same) ∙ take_sets out (bytes_of (last_written Nothing W.out) F) a.size (sym (m.size ∙ ap length same)) m.fits in
+    let same : bytes_of s.earlier (flushed_in (length out) (pile_of s.work)).out ≡ bytes_of (last_written None W.out) F = ap₂ (λ (d : Option ℕ) (z : Handed). bytes_of d z.out) wrote all in
+    let here : take a.size left ≡ bytes_of (last_written None W.out) F
+    = ap (take a.size) (m.stored ∙ ap (sets out 0) same) ∙ take_sets out (bytes_of (last_written None W.out) F) a.size (sym (m.size ∙ ap length same)) m.fits in
     record {
-      bytes = ap₂ (λ (x y : List ℕ). x ++ y) (g.bytes ∙ ap₂ (λ (d : Earlier) (z : Turned). bytes_of d z.out) fresh.earlier went) here ∙ sym (bytes_more Nothing W.out F);
+      bytes = ap₂ (λ (x y : List ℕ). x ++ y) (g.bytes ∙ ap₂ (λ (d : Option ℕ) (z : Turned). bytes_of d z.out) fresh.earlier went) here ∙ sym (bytes_more None W.out F);
       pile = ap (λ (b : Both). b.pile) m.both ∙ ap (λ (z : Handed). z.pile) all;
     }

@@ -1,5 +1,6 @@
 -- Turns one after the other, and a calm stretch of two streams, fed at once, as many turns of one dibit each.
 -- Assumes nothing.
+use Rattle.std.proofs.Common.{Option, Some, Result, Ok}
 use mathlib.Core.Path.{◌≡◌, refl, sym, ap, ap₂, subst, ◌∙◌}
 use mathlib.Core.Bool.{false}
 use mathlib.Core.Logic.{◌⊎◌, ⊎_elim}
@@ -11,8 +12,6 @@ use lib.ListN.{length, take, drop}
 use lib.Seq.{drop-drop}
 use Rattle.journal_rules.specs.Gaps.{Framed}
 use Rattle.merger_rules.specs.Merging.{release_of}
-use Rattle.merger_rules.specs.declared.Clock.{Clock}
-use Rattle.merger_rules.specs.declared.Clock.TheVariants.{At}
 use Rattle.merger_rules.specs.declared.Released.TheVariants.{NothingReady}
 use Rattle.merge_stretches.specs.Statements.{Calm, Stretch}
 use Rattle.merge_stretches.specs.Stretches.{settled_by, settled_of, calm}
@@ -23,13 +22,12 @@ use Rattle.merging_rules.proofs.Handing.{Same, then_same, idle_times}
 use Rattle.recorder_rules.specs.Makings.{Trying}
 use Rattle.recorder_rules.proofs.Rising.{Dibits}
 use Rattle.sync_call_rules.specs.Calls.{shown_as}
-use Rattle.sync_inputs.specs.declared.Push.{Push}
-use Rattle.sync_inputs.specs.declared.Push.TheVariants.{Taken}
 use Rattle.sync_rules.specs.Frames.{Frame}
 use Rattle.sync_rules.specs.Pushes.{step}
 use Rattle.sync_rules.specs.State.{State, Input}
 use Rattle.sync_steps.specs.Feeds.{FedOut, one_more, fed_of}
 use Rattle.sync_steps.proofs.Feeding.{fed_silent}
+use Rattle.bits.specs.declared.Refusal.{Refusal}
 
 -- ---- turns
 
@@ -114,9 +112,9 @@ module _ (xs : List Input) (i : ℕ) (n : Next xs i) (m : State) (c : Calm n.dib
   further : (k : ℕ) → fed (take (suc k) (drop i xs)) m ≡ one_more (fed (take k (drop (suc i) xs)) after)
   further k = ap (λ (l : List Input). fed (take (suc k) l) m) n.here ∙ fed_silent 1296 n.dibit (take k (drop (suc i) xs)) m c.taken c.sent
 
-  alone_settled : settled_of (fed (take 1 (drop i xs)) m) ≡ At m.figures.clock
+  alone_settled : settled_of (fed (take 1 (drop i xs)) m) ≡ Some m.figures.clock
   unfolding one_more fed_of settled_by
-  alone_settled = ap settled_of alone ∙ ap At c.clock
+  alone_settled = ap settled_of alone ∙ ap Some c.clock
 
   alone_sent : (fed (take 1 (drop i xs)) m).sent ≡ []
   unfolding one_more fed_of
@@ -133,7 +131,7 @@ module _ (xs : List Input) (i : ℕ) (n : Next xs i) (m : State) (c : Calm n.dib
 -- ---- what is fed at once
 
 record Whole (o : FedOut) (m : State) : Type 0 where
-  answer : o.answer ≡ Taken
+  answer : o.answer ≡ Ok tt
   sent : o.sent ≡ []
   clock : o.next.figures.clock ≡ m.figures.clock
 
@@ -149,30 +147,30 @@ whole xs d (suc n) i m h p =
     one_before : {a : State} (o : FedOut) → Whole o a → a.figures.clock ≡ m.figures.clock → Whole (one_more o) m
     one_before o r e = record { answer = r.answer; sent = r.sent; clock = r.clock ∙ e }
 
-whole_settled : (xs : List Input) → Dibits xs → (n i : ℕ) (m : State) → 1 ≤ n → i + n ≤ length xs → n ≤ calm m → settled_of (fed (take n (drop i xs)) m) ≡ At m.figures.clock
+whole_settled : (xs : List Input) → Dibits xs → (n i : ℕ) (m : State) → 1 ≤ n → i + n ≤ length xs → n ≤ calm m → settled_of (fed (take n (drop i xs)) m) ≡ Some m.figures.clock
 unfolding one_more settled_by
 whole_settled xs d zero i m l h p = absurd (omega arith)
 whole_settled xs d (suc n) i m l h p =
     let x = next xs i d (omega arith) in
     let c = calm_rule_lem m x.dibit x.good (omega arith) in
     let r = whole xs d n (suc i) (after xs i x m c) (omega arith) (omega (arith, c.rest)) in
-    ap settled_of (further xs i x m c n) ∙ settled_more (fed (take n (drop (suc i) xs)) (after xs i x m c)) r.answer ∙ ap At (r.clock ∙ c.clock)
+    ap settled_of (further xs i x m c n) ∙ settled_more (fed (take n (drop (suc i) xs)) (after xs i x m c)) r.answer ∙ ap Some (r.clock ∙ c.clock)
   where
-    settled_more : (o : FedOut) → o.answer ≡ Taken → settled_of (one_more o) ≡ At o.next.figures.clock
-    settled_more o e = ap (λ (a : Push). settled_by (suc o.used) a o.next.figures.clock) e
+    settled_more : (o : FedOut) → o.answer ≡ Ok tt → settled_of (one_more o) ≡ Some o.next.figures.clock
+    settled_more o e = ap (λ (a : Result Unit Refusal). settled_by (suc o.used) a o.next.figures.clock) e
 
 -- ---- a stretch
 
 abbrev pub IdleBoth : Both → Type 0
-IdleBoth a = (release_of (At a.first.figures.clock) (At a.second.figures.clock) false a.pile.merger).answer ≡ NothingReady
+IdleBoth a = (release_of (Some a.first.figures.clock) (Some a.second.figures.clock) false a.pile.merger).answer ≡ NothingReady
 
-same_clocks : (p : Pile) {k k' l l' : ℕ} → k ≡ k' → l ≡ l' → (release_of (At k) (At l) false p.merger).answer ≡ NothingReady → (release_of (At k') (At l') false p.merger).answer ≡ NothingReady
+same_clocks : (p : Pile) {k k' l l' : ℕ} → k ≡ k' → l ≡ l' → (release_of (Some k) (Some l) false p.merger).answer ≡ NothingReady → (release_of (Some k') (Some l') false p.merger).answer ≡ NothingReady
 same_clocks p {k} {k'} {l} {l'} e f o =
-    subst (λ (z : ℕ). (release_of (At k') (At z) false p.merger).answer ≡ NothingReady) f (subst (λ (z : ℕ). (release_of (At z) (At l) false p.merger).answer ≡ NothingReady) e o)
+    subst (λ (z : ℕ). (release_of (Some k') (Some z) false p.merger).answer ≡ NothingReady) f (subst (λ (z : ℕ). (release_of (Some z) (Some l) false p.merger).answer ≡ NothingReady) e o)
 
-same_settled : (p : Pile) {a b : Clock} {k l : ℕ} → a ≡ At k → b ≡ At l → (release_of (At k) (At l) false p.merger).answer ≡ NothingReady → (release_of a b false p.merger).answer ≡ NothingReady
+same_settled : (p : Pile) {a b : Option ℕ} {k l : ℕ} → a ≡ Some k → b ≡ Some l → (release_of (Some k) (Some l) false p.merger).answer ≡ NothingReady → (release_of a b false p.merger).answer ≡ NothingReady
 same_settled p {a} {b} {k} {l} e f o =
-    subst (λ (z : Clock). (release_of a z false p.merger).answer ≡ NothingReady) (sym f) (subst (λ (z : Clock). (release_of z (At l) false p.merger).answer ≡ NothingReady) (sym e) o)
+    subst (λ (z : Option ℕ). (release_of a z false p.merger).answer ≡ NothingReady) (sym f) (subst (λ (z : Option ℕ). (release_of z (Some l) false p.merger).answer ≡ NothingReady) (sym e) o)
 
 module _ (try : Trying) (xs ys : List Input) where
   fed_both : ℕ → ℕ → Both → Both

@@ -1,9 +1,8 @@
 -- What a step over two streams promises.
 -- Assumes nothing.
-use Rattle.std.specs.Prelude.{◌≡◌, ◌⊎◌, Bool, true, false, cond, List, [], ℕ, ◌+◌, ◌*◌, ◌^◌, ◌≤◌, ◌<◌, min, max, ltb, length}
+use Rattle.std.specs.Prelude.{◌≡◌, ◌⊎◌, Bool, true, false, cond, List, [], ℕ, ◌+◌, ◌*◌, ◌^◌, ◌≤◌, ◌<◌, min, max, ltb, length, Some, Ok, Err}
 use Rattle.std.proofs.lemmas.List.Edits.{sets}
 use Rattle.bits.specs.declared.Refusal.TheVariants.{FrameRoom}
-use Rattle.merger_rules.specs.declared.Clock.TheVariants.{At}
 use Rattle.merging_rules.specs.Accounts.{told_of, Idle}
 use Rattle.merging_rules.specs.Piles.{Pile, Handed}
 use Rattle.merging_rules.specs.Turns.{Both, walk, flushed}
@@ -11,7 +10,6 @@ use Rattle.merging_rules.specs.Works.{pile_of, last_written, bytes_of, ValidWork
 use Rattle.merging_rules.specs.declared.Work.{Work}
 use Rattle.recorder_rules.specs.Makings.{Trying}
 use Rattle.sync.specs.View.{view}
-use Rattle.sync_inputs.specs.declared.Push.TheVariants.{Taken, Refused}
 use Rattle.sync_numbers.specs.View.{Steady, Few, Rings}
 use Rattle.sync_numbers.specs.declared.numbers.Numbers.{Numbers}
 use Rattle.sync_rules.specs.State.{Input}
@@ -38,7 +36,7 @@ pub record Paired (bits reliabilities : List ℕ) (k : Numbers) (others their : 
   -- a dibit that is taken sends three frames at most
   pub told : told_of w.answered ≤ 3 * (k.figures.taken + l.figures.taken)
   -- where they are settled nothing is ready
-  pub idle : Idle (At k.figures.clock) (At l.figures.clock) false w.merger
+  pub idle : Idle (Some k.figures.clock) (Some l.figures.clock) false w.merger
 
 -- a recorder that a start and further steps reach
 abbrev pub ValidMerge : MergeRecorder → Type 0
@@ -63,7 +61,7 @@ most_turns = 2 ^ 62
 
 -- the answer to the dibits xs of the primary and ys of the alternate, each with whether nothing comes after them; the lent bytes before and after
 pub record MergeSteppedBy (try : Trying) (out left : List ℕ) (xs : List Input) (over : Bool) (ys : List Input) (ended : Bool) (r : MergeRecorder) (a : MergeStepped) : Type 0 where
-  pub answer : a.answer ≡ cond (ltb (length out) merge_need) (Refused FrameRoom) Taken
+  pub answer : a.answer ≡ cond (ltb (length out) merge_need) (Err FrameRoom) (Ok tt)
   -- turn by turn, as long as there are dibits and memory for what a turn may need
   pub few : a.used ≤ available_of over ended (length xs) (length ys)
   pub before : (j : ℕ) → j < a.used → length (bytes_of r.earlier (walk j try xs ys (both_of r)).out) + merge_need ≤ length out
@@ -82,7 +80,7 @@ abbrev pub flushed_in : ℕ → Pile → Handed
 flushed_in size p = cond (ltb size merge_need) (record { pile = p; out = []; deeds = [] }) (flushed p)
 
 pub record MergeFlushedBy (out left : List ℕ) (r : MergeRecorder) (a : MergeStepped) : Type 0 where
-  pub answer : a.answer ≡ cond (ltb (length out) merge_need) (Refused FrameRoom) Taken
+  pub answer : a.answer ≡ cond (ltb (length out) merge_need) (Err FrameRoom) (Ok tt)
   pub used : a.used ≡ 0
   pub both : both_of a.next ≡ record { first = view r.first; second = view r.second; pile = (flushed_in (length out) (pile_of r.work)).pile }
   pub earlier : a.next.earlier ≡ last_written r.earlier (flushed_in (length out) (pile_of r.work)).out

@@ -7,17 +7,18 @@
 
 ghost use Rattle.merge_recorder_rules.specs.Statements.{merge_records};
 
-use journal_rules::Earlier;
+use bits::Refusal;
 use merging_rules::Work;
-use sync::{Push, Synchroniser};
+use sync::Synchroniser;
 
 // Holds the synchronisers of the primary and of the alternate, what is made of their frames, and the frame written last.
+// kept: `ValidMerge` is a clause and no ghost field, by what may not change: `merge_recorder_steps::stepped` makes a recorder of whatever it is given.
 #[derive(Clone, Copy)]
 pub struct MergeRecorder {
     pub first: Synchroniser,
     pub second: Synchroniser,
     pub work: Work,
-    pub earlier: Earlier,
+    pub earlier: Option<u64>,
 }
 
 // Says how many dibits of each stream a step used, of one that has ended as far as it has them, and how many bytes of records it laid at the front of the lent
@@ -26,7 +27,7 @@ pub struct MergeRecorder {
 pub struct MergeStepped {
     pub used: usize,
     pub size: usize,
-    pub answer: Push,
+    pub answer: Result<(), Refusal>,
     pub next: MergeRecorder,
 }
 

@@ -1,10 +1,11 @@
 -- What a step has come to after so many turns, and one round of its loop.
 -- Assumes nothing.
+use Rattle.std.proofs.Common.{Option, Some, Ok}
 use mathlib.Core.Path.{◌≡◌, refl, sym, ap, ap₂, subst, ◌∙◌}
 use mathlib.Core.Logic.{◌⊎◌, inl, inr, ⊎_elim}
 use mathlib.Core.Bool.{Bool, true, false}
 use mathlib.Core.List.{List, [], ◌∷◌}
-use Prim.Native.Nat.{ℕ, zero, ◌+◌, ◌-◌, ◌*◌, ◌≤◌, ◌<◌, min, max}
+use Prim.Native.Nat.{ℕ, ◌+◌, ◌-◌, ◌*◌, ◌≤◌, ◌<◌, min}
 use native.Mathlib.Omega.{arith}
 use borrow.Author.Tests.{ltb-true, ltb-false}
 use lib.Dec.{ltb}
@@ -21,8 +22,6 @@ use Rattle.merge_stretches.specs.Statements.{Stretch}
 use Rattle.merge_stretches.specs.Stretches.{settled_of, stretch_of}
 use Rattle.merge_stretches.proofs.Calming.{stretch_rule_lem}
 use Rattle.merger.specs.declared.Merger.{Merger}
-use Rattle.merger_rules.specs.declared.Clock.{Clock}
-use Rattle.merger_rules.specs.declared.Clock.TheVariants.{At}
 use Rattle.merging_rules.specs.Accounts.{told_of, most_told, Idle}
 use Rattle.merging_rules.specs.Piles.{Pile, Handed, then, offered_all, all_released}
 use Rattle.merging_rules.specs.Turns.{Both, fed, made_of, walk}
@@ -37,25 +36,12 @@ use Rattle.recorder_rules.proofs.Feeding.{packed_dibits}
 use Rattle.recorder_rules.proofs.Rising.{Dibits}
 use Rattle.sync.specs.declared.Synchroniser.{Synchroniser}
 use Rattle.sync_call_rules.specs.Calls.{Got, shown_as}
-use Rattle.sync_inputs.specs.declared.Push.TheVariants.{Taken}
 use Rattle.sync_inputs.proofs.Inputs.{length_packed}
 use Rattle.sync_numbers.specs.View.{view_of}
 use Rattle.sync_numbers.specs.declared.numbers.Numbers.{Numbers}
 use Rattle.sync_rules.specs.State.{State, Input}
 
 -- ---- how many turns there are
-
-pub both_ended : (a b n : ℕ) → n ≡ max a b → (over ended : Bool) → over ≡ true → ended ≡ true → n ≡ available_of over ended a b
-both_ended a b n e over ended p q = e ∙ sym (ap₂ (λ (x y : Bool). available_of x y a b) p q)
-
-pub first_over : (a b : ℕ) (over ended : Bool) → over ≡ true → ended ≡ false → b ≡ available_of over ended a b
-first_over a b over ended p q = sym (ap₂ (λ (x y : Bool). available_of x y a b) p q)
-
-pub second_over : (a b : ℕ) (over ended : Bool) → over ≡ false → ended ≡ true → a ≡ available_of over ended a b
-second_over a b over ended p q = sym (ap₂ (λ (x y : Bool). available_of x y a b) p q)
-
-pub neither_over : (a b n : ℕ) → n ≡ min a b → (over ended : Bool) → over ≡ false → ended ≡ false → n ≡ available_of over ended a b
-neither_over a b n e over ended p q = e ∙ sym (ap₂ (λ (x y : Bool). available_of x y a b) p q)
 
 least_available : (over ended : Bool) (m a b : ℕ) → available_of over ended (min m a) (min m b) ≡ min m (available_of over ended a b)
 least_available true true m a b = omega arith
@@ -68,9 +54,6 @@ pub all_there : (primary alternate : List ℕ) (from start p q all : ℕ) (over 
 all_there primary alternate from start p q all over ended e f g =
     g ∙ ap₂ (λ (x y : ℕ). available_of over ended x y) (e ∙ ap (min most_turns) (sym (length_packed primary from))) (f ∙ ap (min most_turns) (sym (length_packed alternate start)))
     ∙ least_available over ended most_turns (length (dibits_of primary from)) (length (dibits_of alternate start))
-
-no_less : (over ended : Bool) (a b i : ℕ) → i < available_of over ended a b → i + 1 ≤ available_of over ended a b
-no_less over ended a b i h = omega arith
 
 -- a stretch does not pass the available turns
 both_there : (over ended : Bool) (a b i n : ℕ) → i + n ≤ a → i + n ≤ b → i + n ≤ available_of over ended a b
@@ -111,13 +94,13 @@ module _ (try : Trying) (xs ys : List Input) (m m' : State) (bits reliabilities 
   made_same : (p : Pile) → made_by try a one b two p ≡ made_of try (fed xs m) (fed ys m') p
   made_same p =
       ap₂ (λ (gs hs : List Got). then (then (offered_all try 0 gs p) (offered_all try 1 hs)) (all_released a.settled b.settled false)) T.frames U.frames
-      ∙ ap₂ (λ (c d : Clock). then (then (offered_all try 0 (shown_as (fed xs m).sent) p) (offered_all try 1 (shown_as (fed ys m').sent))) (all_released c d false)) T.settled U.settled
+      ∙ ap₂ (λ (c d : Option ℕ). then (then (offered_all try 0 (shown_as (fed xs m).sent) p) (offered_all try 1 (shown_as (fed ys m').sent))) (all_released c d false)) T.settled U.settled
 
   pub busy_moved : (w v : Work) (out left : List ℕ) (before after : Laid) → MovedBy (made_by try a one b two (pile_of w)) out left before v after → MovedBy (made_of try (fed xs m) (fed ys m') (pile_of w)) out left before v after
   busy_moved w v out left before after n = subst (λ (h : Handed). MovedBy h out left before v after) (made_same (pile_of w)) n
 
   settled_as : (w : Merger) → Idle a.settled b.settled false w → Idle (settled_of (fed xs m)) (settled_of (fed ys m')) false w
-  settled_as w o = subst (λ (z : Clock). Idle (settled_of (fed xs m)) z false w) U.settled (subst (λ (z : Clock). Idle z b.settled false w) T.settled o)
+  settled_as w o = subst (λ (z : Option ℕ). Idle (settled_of (fed xs m)) z false w) U.settled (subst (λ (z : Option ℕ). Idle z b.settled false w) T.settled o)
 
   pub calm_moved : (w : Work) (out : List ℕ) (lay : Laid) → NothingToDo a b w.merger → MovedBy (made_of try (fed xs m) (fed ys m') (pile_of w)) out out lay w lay
   calm_moved w out lay n =
@@ -125,11 +108,11 @@ module _ (try : Trying) (xs ys : List Input) (m m' : State) (bits reliabilities 
       record { pile = sym s.pile; laid = subst (λ (fs : List Framed). FramesLaid out out lay fs lay) (sym s.out) (laid_nothing out lay) }
 
   -- nothing is ready at the clocks
-  clocks_idle : (v : Work) → Idle a.settled b.settled false v.merger → Idle (At a.numbers.figures.clock) (At b.numbers.figures.clock) false v.merger
+  clocks_idle : (v : Work) → Idle a.settled b.settled false v.merger → Idle (Some a.numbers.figures.clock) (Some b.numbers.figures.clock) false v.merger
   clocks_idle v o =
       let c : (fed xs m).next.figures.clock ≡ a.numbers.figures.clock = sym (ap (λ (z : State). z.figures.clock) T.next) in
       let d : (fed ys m').next.figures.clock ≡ b.numbers.figures.clock = sym (ap (λ (z : State). z.figures.clock) U.next) in
-      subst (λ (z : ℕ). Idle (At a.numbers.figures.clock) (At z) false v.merger) d (subst (λ (z : ℕ). Idle (At z) (At (fed ys m').next.figures.clock) false v.merger) c (idle_at_clocks _ _ _ _ _ _ v.merger (settled_as v.merger o)))
+      subst (λ (z : ℕ). Idle (Some a.numbers.figures.clock) (Some z) false v.merger) d (subst (λ (z : ℕ). Idle (Some z) (Some (fed ys m').next.figures.clock) false v.merger) c (idle_at_clocks _ _ _ _ _ _ v.merger (settled_as v.merger o)))
 
 -- frames told are few
 pub told_few : (bits reliabilities : List ℕ) (k : Numbers) (others their : List ℕ) (l : Numbers) (w : Work) → Paired bits reliabilities k others their l w → told_of w.answered + 6 < most_told
@@ -195,11 +178,11 @@ pub stepped_by : (try : Trying) (primary alternate : List ℕ) (from start : ℕ
     → Stood try (dibits_of primary from) (dibits_of alternate start) (packed_dibits primary from) (packed_dibits alternate start) (both_of r) out lay₀ i bits reliabilities k others their l w left lay
     → all ≡ min most_turns (available_of over ended (length (dibits_of primary from)) (length (dibits_of alternate start))) → i ≤ all → (all ≤ i) ⊎ (length out < lay.size + merge_need)
     → (x y : Synchroniser) → x ≡ record { bits = bits; reliabilities = reliabilities; numbers = k } → y ≡ record { bits = others; reliabilities = their; numbers = l }
-    → (s : MergeStepped) → s ≡ record { used = i; size = lay.size; answer = Taken; next = record { first = x; second = y; work = w; earlier = lay.earlier } }
+    → (s : MergeStepped) → s ≡ record { used = i; size = lay.size; answer = (Ok tt); next = record { first = x; second = y; work = w; earlier = lay.earlier } }
     → MergeSteppedBy try out left (dibits_of primary from) over (dibits_of alternate start) ended r s × Paired s.next.first.bits s.next.first.reliabilities s.next.first.numbers s.next.second.bits s.next.second.reliabilities s.next.second.numbers s.next.work
 stepped_by try primary alternate from start over ended r out left large i all bits reliabilities k others their l w lay₀ lay e₀ S₀ there few stops x y ex ey s es =
     subst (λ (z : MergeStepped). MergeSteppedBy try out left xs over ys ended r z × Paired z.next.first.bits z.next.first.reliabilities z.next.first.numbers z.next.second.bits z.next.second.reliabilities z.next.second.numbers z.next.work)
-    (sym (es ∙ ap₂ (λ (g h : Synchroniser). record { used = i; size = lay.size; answer = Taken; next = record { first = g; second = h; work = w; earlier = lay.earlier } }) ex ey)) (
+    (sym (es ∙ ap₂ (λ (g h : Synchroniser). record { used = i; size = lay.size; answer = (Ok tt); next = record { first = g; second = h; work = w; earlier = lay.earlier } }) ex ey)) (
       record {
         answer = sym (cond_ge (length out) merge_need _ _ large);
         few = omega (arith, few, there);

@@ -7,22 +7,18 @@ ghost use Rattle.frame_outcomes.specs.Outcomes.{tried_of};
 ghost use Rattle.merge_recorder_rules.specs.Steps.{ValidMerge, merge_need, most_turns, available_of, MergeSteppedBy};
 ghost use Rattle.recorder_rules.specs.Steps.{dibits_of, laid_none};
 
-use journal_rules::Earlier;
 use merge_recorder_rules::{MergeRecorder, MergeStepped};
 use merge_recorder_turns::{made_of, stirs, take};
 use merge_stretches::stretch;
-use merging_rules::Work;
+use merging_releasing::Moved;
 use recorder_rules::Laid;
-use sync::{Push, Synchroniser};
-use sync_rules::{MOST_HELD, ROOM_SIZE};
-use sync_steps::Numbers;
+use sync::Synchroniser;
+use sync_rules::ROOM_SIZE;
 
 // The bytes that the frames of one turn may need.
 pub const TURN_NEED: usize = 2816;
 
 // A step makes at most 2^62 turns: four for each of 2^60 bytes.
-const MOST_BYTES: usize = 1152921504606846976;
-
 const MOST_TURNS: usize = 4611686018427387904;
 
 // Gives how many dibits `size` bytes hold from dibit `from` of the first one on, up to 2^62.
@@ -30,46 +26,19 @@ fn dibits_left(size: usize, from: usize) -> usize
     requires { from ≤ 3 }
     ensures { result ≡ min most_turns (4 * size - from) }
 {
-    if MOST_BYTES < size {
-        return MOST_TURNS;
-    }
-    let all = 4 * size;
-    if all < from {
-        return 0;
-    }
-    all - from
+    size.saturating_mul(4).saturating_sub(from).min(MOST_TURNS)
 }
 
 // Gives how many turns can be made where a and b dibits are there: of a stream that has not ended the next dibit has to be there.
 fn available(over: bool, ended: bool, a: usize, b: usize) -> usize
     ensures { result ≡ available_of over ended a b }
 {
-    if over {
-        if ended {
-            if a < b {
-                return b;
-            }
-            return a;
-        }
-        return b;
+    match (over, ended) {
+        (true, true) => a.max(b),
+        (true, false) => b,
+        (false, true) => a,
+        (false, false) => a.min(b),
     }
-    if ended {
-        return a;
-    }
-    if a < b {
-        return a;
-    }
-    b
-}
-
-// Gives how many of `all` dibits are left from dibit i on.
-fn left_of(all: usize, i: usize) -> usize
-    ensures { result ≡ all - i }
-{
-    if all < i {
-        return 0;
-    }
-    all - i
 }
 
 // Tells whether another turn is made: there are dibits for it, and memory for what it may need.
@@ -78,14 +47,11 @@ fn goes_on(i: usize, all: usize, laid: usize, size: usize) -> bool
     ensures yes { result ≡ true → (i < all) × (laid + merge_need ≤ size) }
     ensures no { result ≡ false → (all ≤ i) ⊎ (size < laid + merge_need) }
 {
-    if size - laid < TURN_NEED {
-        return false;
-    }
-    i < all
+    i < all && TURN_NEED <= size - laid
 }
 
 // Says that nothing is laid yet behind an earlier frame.
-pub fn nothing_laid(earlier: Earlier) -> Laid
+pub fn nothing_laid(earlier: Option<u64>) -> Laid
     ensures { result ≡ laid_none earlier }
 {
     Laid {
@@ -95,38 +61,20 @@ pub fn nothing_laid(earlier: Earlier) -> Laid
     }
 }
 
-// Puts the rings and numbers together as a synchroniser.
-fn held_in(bits: [u8; MOST_HELD], reliabilities: [u8; MOST_HELD], numbers: Numbers) -> Synchroniser
-    ensures { result ≡ record { bits = bits; reliabilities = reliabilities; numbers = numbers } }
-{
-    Synchroniser {
-        bits,
-        reliabilities,
-        numbers,
-    }
-}
-
 // Puts together what a step hands back.
-pub fn stepped(
-    used: usize,
-    laid: Laid,
-    first: Synchroniser,
-    second: Synchroniser,
-    work: Work,
-) -> MergeStepped
-    ensures { result ≡ record { used = used; size = laid.size; answer = Push.Taken; next = record { first = first; second = second; work = work; earlier = laid.earlier } } }
+pub fn stepped(used: usize, moved: Moved, first: Synchroniser, second: Synchroniser) -> MergeStepped
+    ensures { result ≡ record { used = used; size = moved.laid.size; answer = Ok tt; next = record { first = first; second = second; work = moved.work; earlier = moved.laid.earlier } } }
 {
-    let earlier = laid.earlier;
     let next = MergeRecorder {
         first,
         second,
-        work,
-        earlier,
+        work: moved.work,
+        earlier: moved.laid.earlier,
     };
     MergeStepped {
         used,
-        size: laid.size,
-        answer: Push::Taken,
+        size: moved.laid.size,
+        answer: Ok(()),
         next,
     }
 }
@@ -152,25 +100,25 @@ pub fn turns(
     ensures valid { ValidMerge result.next }
 {
     // bits, rels and numbers are the primary's synchroniser, others, their and figures the alternate's
-    let first = r.first;
-    let second = r.second;
-    let mut bits = first.bits;
-    let mut rels = first.reliabilities;
-    let mut numbers = first.numbers;
-    let mut others = second.bits;
-    let mut their = second.reliabilities;
-    let mut figures = second.numbers;
-    let mut work = r.work;
-    let earlier = r.earlier;
-    let mut laid = nothing_laid(earlier);
+    let mut bits = r.first.bits;
+    let mut rels = r.first.reliabilities;
+    let mut numbers = r.first.numbers;
+    let mut others = r.second.bits;
+    let mut their = r.second.reliabilities;
+    let mut figures = r.second.numbers;
+    let mut moved = Moved {
+        work: r.work,
+        laid: nothing_laid(r.earlier),
+    };
     let mut one = [0u8; ROOM_SIZE];
     let mut two = [0u8; ROOM_SIZE];
     let p = dibits_left(primary.len(), from);
     let q = dibits_left(alternate.len(), start);
     let all = available(over, ended, p, q);
+    // kept: a `while`, since a `for` is no plainer: i goes on by stretches, and the loop stops where the lent memory is used up.
     let mut i = 0;
-    while goes_on(i, all, laid.size, out.len()) {
-        let n = stretch(numbers, figures, left_of(p, i), left_of(q, i));
+    while goes_on(i, all, moved.laid.size, out.len()) {
+        let n = stretch(numbers, figures, p.saturating_sub(i), q.saturating_sub(i));
         let a = take(&mut bits, &mut rels, numbers, primary, from, i, n, &mut one);
         let b = take(
             &mut others,
@@ -185,21 +133,19 @@ pub fn turns(
         numbers = a.numbers;
         figures = b.numbers;
         i += n;
-        let waiting = work.merger;
-        let busy = stirs(waiting, a, b);
-        if busy {
-            let moved = made_of(work, laid, table, a, b, &one, &two, &mut *out);
-            let next = moved.work;
-            let more = moved.laid;
-            work = next;
-            laid = more;
+        if stirs(moved.work.merger, a, b) {
+            moved = made_of(moved, table, a, b, &one, &two, out);
         }
     }
-    stepped(
-        i,
-        laid,
-        held_in(bits, rels, numbers),
-        held_in(others, their, figures),
-        work,
-    )
+    let first = Synchroniser {
+        bits,
+        reliabilities: rels,
+        numbers,
+    };
+    let second = Synchroniser {
+        bits: others,
+        reliabilities: their,
+        numbers: figures,
+    };
+    stepped(i, moved, first, second)
 }

@@ -1,17 +1,17 @@
 -- A stream that is fed, and what it brings.
 -- Assumes nothing.
+use Rattle.std.proofs.Common.{Option, Result}
 use mathlib.Core.Path.{◌≡◌, sym, ap, ap₂, subst, ◌∙◌}
 use mathlib.Core.List.{List, [], ◌∷◌, ◌++◌}
 use Prim.Native.Nat.{ℕ, zero, suc, ◌+◌, ◌*◌, ◌≤◌, ◌<◌}
 use native.Mathlib.Omega.{arith}
 use lib.ListN.{length, get_or, take, drop}
-use lib.Seq.{drop-drop}
+use lib.Seq.{drop-drop, length-take-le, get_or-take}
 use Rattle.bits.specs.Bit.{Bits}
 use Rattle.bits.specs.Sizes.{most_offset}
 use Rattle.journal_rules.specs.Gaps.{Framed}
 use Rattle.merge_recorder_rules.specs.Steps.{Going}
 use Rattle.merge_stretches.specs.Stretches.{settled_by}
-use Rattle.merger_rules.specs.declared.Clock.{Clock}
 use Rattle.merging_rules.specs.Piles.{Pile, Handed, then}
 use Rattle.merging_rules.specs.Turns.{fed}
 use Rattle.merging_rules.specs.Works.{pile_of, FramesLaid, MovedBy, Storable}
@@ -27,7 +27,6 @@ use Rattle.sync_call_rules.proofs.Histories.{heads_are, fed_fits}
 use Rattle.sync_call_rules.proofs.Slots.{read_slots}
 use Rattle.sync_frames.specs.Frames.{heads_of, DrainedBy}
 use Rattle.sync_inputs.specs.Inputs.{hardly, unpacked}
-use Rattle.sync_inputs.specs.declared.Push.{Push}
 use Rattle.sync_inputs.proofs.Inputs.{take_hardly, drop_hardly}
 use Rattle.sync_numbers.specs.View.{view_of, Steady, Rings}
 use Rattle.sync_numbers.specs.declared.numbers.Numbers.{Numbers}
@@ -41,6 +40,7 @@ use Rattle.sync_steps.specs.Feeds.{FedOut, fed_of, FedInto}
 use Rattle.sync_steps.specs.declared.feeds.Into.{Into}
 use Rattle.merge_recorder_turns.specs.Brought.{BroughtBy}
 use Rattle.merge_recorder_turns.specs.declared.Brought as brought
+use Rattle.bits.specs.declared.Refusal.{Refusal}
 
 -- ---- the dibits
 
@@ -111,7 +111,7 @@ module _ (xs : List Input) (d : Dibits xs) (bits reliabilities : List ℕ) (k : 
   abbrev m : State
   m = view_of bits reliabilities k
 
-  abbrev taken : Clock → brought.Brought
+  abbrev taken : Option ℕ → brought.Brought
   taken c = record { settled = c; numbers = r.drained.numbers; count = r.drained.count; heads = r.drained.heads }
 
   took_all : FedInto bits' reliabilities' room room' (fed xs m) r → BroughtBy xs m bits' reliabilities' room' (taken (settled_by r.took r.answer r.drained.numbers.figures.clock))
@@ -123,7 +123,7 @@ module _ (xs : List Input) (d : Dibits xs) (bits reliabilities : List ℕ) (k : 
       record {
         sound = record { rings = f.rings; steady = s.steady; few = s.few };
         next = s.next;
-        settled = ap₂ (λ (n : ℕ) (a : Push). settled_by n a r.drained.numbers.figures.clock) f.used f.answer ∙ ap (settled_by (fed xs m).used (fed xs m).answer) clock;
+        settled = ap₂ (λ (n : ℕ) (a : Result Unit Refusal). settled_by n a r.drained.numbers.figures.clock) f.used f.answer ∙ ap (settled_by (fed xs m).used (fed xs m).answer) clock;
         count = s.many;
         frames = ap₂ (λ (hs : List Head) (l : List ℕ). slots hs l 0) (heads_are r.drained.count r.drained.heads fs w.most s.many s.figures) s.stored ∙ read_slots fs room 0 w.fit (omega (arith, w.most));
         few = record {
@@ -134,10 +134,19 @@ module _ (xs : List Input) (d : Dibits xs) (bits reliabilities : List ℕ) (k : 
       }
 
   pub took_as : (zs : List Input) → zs ≡ xs → FedInto bits' reliabilities' room room' (fed_of (length room) zs m) r
-      → (c : Clock) → c ≡ settled_by r.took r.answer r.drained.numbers.figures.clock → BroughtBy xs m bits' reliabilities' room' (taken c)
+      → (c : Option ℕ) → c ≡ settled_by r.took r.answer r.drained.numbers.figures.clock → BroughtBy xs m bits' reliabilities' room' (taken c)
   took_as zs e f c k =
-      subst (λ (z : Clock). BroughtBy xs m bits' reliabilities' room' (taken z)) (sym k)
+      subst (λ (z : Option ℕ). BroughtBy xs m bits' reliabilities' room' (taken z)) (sym k)
       (took_all (subst (λ (o : FedOut). FedInto bits' reliabilities' room room' o r) (ap₂ (λ (n : ℕ) (ys : List Input). fed_of n ys m) large e) f))
+
+-- the frames of a push, as they are handed in
+module _ (n : ℕ) (hs : List Head) (long : length hs ≡ 3) (few : n ≤ 3) where
+  pub heads_few : length (take n hs) ≡ n
+  heads_few = length-take-le n hs (omega arith)
+
+  pub heads_fit : ((k : ℕ) → k < n → Storable (get_or hs k no_head)) → (length (take n hs) ≤ 3) × ((k : ℕ) → k < length (take n hs) → Storable (get_or (take n hs) k no_head))
+  heads_fit fit =
+      (omega (arith, heads_few), λ k i. let j : k < n = omega (arith, heads_few) in subst Storable (sym (get_or-take n hs k no_head j)) (fit k j))
 
 -- ---- a call, and then another on what it leaves
 pub moved_then : (g : Handed) (f : Pile → Handed) (out mid left : List ℕ) (before between after : Laid) (w u : Work) → MovedBy g out mid before w between → MovedBy (f (pile_of w)) mid left between u after

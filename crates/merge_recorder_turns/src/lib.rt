@@ -15,20 +15,18 @@ ghost use Rattle.sync_numbers.specs.View.{view_of};
 
 use merge_stretches::settled_after;
 use merger::Merger;
-use merger_rules::Clock;
 use merger_steps::ready;
 use merging_offering::offer_all;
 use merging_releasing::{Moved, release_all};
-use merging_rules::Work;
-use recorder_rules::Laid;
 use sync_inputs::Source;
 use sync_rules::{Head, MOST_HELD, ROOM_SIZE};
 use sync_steps::{Numbers, feed_into};
 
 // Says what a dibit, or a calm stretch, of a stream brought: how far it is settled, the numbers of its synchroniser and the frames that went out.
+// kept: a rule of the project (no heap, fixed memory): the count stands beside one array of the three frames that can go out.
 #[derive(Clone, Copy)]
 pub struct Brought {
-    pub settled: Clock,
+    pub settled: Option<u64>,
     pub numbers: Numbers,
     pub count: usize,
     pub heads: [Head; 3],
@@ -50,25 +48,17 @@ pub fn take(
     requires fact_3 { i < 2 ^ 62 }
     ensures { BroughtBy (take n (drop i (dibits_of bytes.now from))) (view_of bits.old reliabilities.old k) bits.new reliabilities.new room.new result }
 {
-    let start = from + i;
-    let d = feed_into(
-        bits,
-        reliabilities,
-        k,
-        Source::Stretch(n),
+    let stretch = Source::Stretch {
         bytes,
-        bytes,
-        start,
-        room,
-    );
-    let settled = settled_after(d);
-    let drained = d.drained;
-    let numbers = drained.numbers;
-    let heads = drained.heads;
+        start: from + i,
+        most: n,
+    };
+    let d = feed_into(bits, reliabilities, k, stretch, room);
+    let heads = d.drained.heads;
     Brought {
-        settled,
-        numbers,
-        count: drained.count,
+        settled: settled_after(d),
+        numbers: d.drained.numbers,
+        count: d.drained.count,
         heads,
     }
 }
@@ -78,26 +68,14 @@ pub fn stirs(m: Merger, primary: Brought, alternate: Brought) -> bool
     requires { ValidMerger m }
     ensures { result ≡ false → NothingToDo primary alternate m }
 {
-    if primary.count != 0 {
-        return true;
-    }
-    if alternate.count != 0 {
-        return true;
-    }
-    if m.n == 0 {
-        return false;
-    }
-    let positions = m.positions;
-    let p = positions[0];
-    let settled = primary.settled;
-    let other = alternate.settled;
-    ready(p, settled, other, false)
+    primary.count != 0
+        || alternate.count != 0
+        || (m.n != 0 && ready(m.positions[0], primary.settled, alternate.settled, false))
 }
 
 // Hands in what both pushes brought, the primary's frames first, then hands on all that is ready.
 pub fn made_of(
-    w: Work,
-    laid: Laid,
+    before: Moved,
     table: &[u8],
     primary: Brought,
     alternate: Brought,
@@ -105,26 +83,25 @@ pub fn made_of(
     two: &[u8; ROOM_SIZE],
     out: &mut [u8],
 ) -> Moved
-    requires fact_1 { ValidWork w }
-    requires fact_2 { told_of w.answered + 6 < most_told }
+    requires fact_1 { ValidWork before.work }
+    requires fact_2 { told_of before.work.answered + 6 < most_told }
     requires fact_3 { Few primary }
     requires fact_4 { Few alternate }
-    requires fact_5 { laid.size + merge_need ≤ length out.old }
+    requires fact_5 { before.laid.size + merge_need ≤ length out.old }
     ensures valid { ValidWork result.work }
-    ensures moved { MovedBy (made_by (tried_of table.now) primary one.now alternate two.now (pile_of w)) out.old out.new laid result.work result.laid }
-    ensures told { told_of result.work.answered ≡ told_of w.answered + (primary.count + alternate.count) }
+    ensures moved { MovedBy (made_by (tried_of table.now) primary one.now alternate two.now (pile_of before.work)) out.old out.new before.laid result.work result.laid }
+    ensures told { told_of result.work.answered ≡ told_of before.work.answered + (primary.count + alternate.count) }
     ensures idle { Idle primary.settled alternate.settled false result.work.merger }
     ensures fits { result.laid.size ≤ length out.old }
 {
-    let heads = primary.heads;
-    let first = offer_all(w, laid, table, 0, heads, primary.count, one, &mut *out);
-    let v = first.work;
-    let lay = first.laid;
-    let others = alternate.heads;
-    let second = offer_all(v, lay, table, 1, others, alternate.count, two, &mut *out);
-    let u = second.work;
-    let more = second.laid;
-    let settled = primary.settled;
-    let other = alternate.settled;
-    release_all(u, more, settled, other, false, &mut *out)
+    let first = offer_all(before, table, 0, &primary.heads[..primary.count], one, out);
+    let second = offer_all(
+        first,
+        table,
+        1,
+        &alternate.heads[..alternate.count],
+        two,
+        out,
+    );
+    release_all(second, primary.settled, alternate.settled, false, out)
 }

@@ -1,6 +1,7 @@
 -- A calm stretch, dibit by dibit.
 -- Assumes nothing.
-use mathlib.Core.Path.{◌≡◌, refl, sym, ap, ap₂, ◌∙◌}
+use Rattle.std.proofs.Common.{Option, Some, None, Result, Ok, Err}
+use mathlib.Core.Path.{◌≡◌, refl, sym, ◌∙◌}
 use mathlib.Core.Logic.{◌⊎◌, inl, inr}
 use mathlib.Core.List.{[], ◌∷◌, append-nil}
 use Prim.Native.Nat.{ℕ, zero, suc, ◌≤◌, ◌<◌, ◌^◌, min, max}
@@ -10,25 +11,21 @@ use Rattle.bits.proofs.Tests.{cond_no}
 use lib.Dec.{leb, ltb}
 use Rattle.bits.specs.declared.Refusal.{Refusal}
 use Rattle.bits.specs.declared.Refusal.TheVariants.{Dibit, FrameRoom, StreamEnd}
-use Rattle.merger_rules.specs.declared.Clock.{Clock}
-use Rattle.merger_rules.specs.declared.Clock.TheVariants.{Absent, At}
-use Rattle.sync_inputs.specs.declared.Push.{Push}
-use Rattle.sync_inputs.specs.declared.Push.TheVariants.{Taken, Refused}
 use Rattle.sync_inputs.specs.Answers.{answer_by, answer_to}
 use Rattle.sync_rules.specs.State.{State, Input}
-use Rattle.sync_rules.specs.Pushes.{step, run, quiet}
+use Rattle.sync_rules.specs.Pushes.{step, run}
 use Rattle.sync_rules.proofs.Stillness.{quiet_rule_lem}
 use Rattle.sync_rules.proofs.Taken.{step_taken}
 use Rattle.merge_stretches.specs.Stretches.{calm, at_once, stretch_of, settled_by}
-use Rattle.merge_stretches.specs.Statements.{Calm, calm_rule, Stretch, stretch_rule}
+use Rattle.merge_stretches.specs.Statements.{calm_rule, stretch_rule}
 
-takes_it : (x : Input) (m : State) → x.dibit < 4 → m.figures.taken < 2 ^ 40 → answer_to 1296 x m ≡ Taken
+takes_it : (x : Input) (m : State) → x.dibit < 4 → m.figures.taken < 2 ^ 40 → answer_to 1296 x m ≡ Ok tt
 unfolding answer_to answer_by
 takes_it x m h k =
     sym
-    (cond_no (leb (2 ^ 40) m.figures.taken) _ (Refused StreamEnd) Taken refl (lt-leb (2 ^ 40) m.figures.taken k)
-    ∙ cond_no (ltb 1296 1296) _ (Refused FrameRoom) _ refl (le-ltb 1296 1296 (omega arith))
-    ∙ cond_no (ltb 3 x.dibit) _ (Refused Dibit) _ refl (le-ltb 3 x.dibit (omega arith)))
+    (cond_no (leb (2 ^ 40) m.figures.taken) _ (Err StreamEnd) (Ok tt) refl (lt-leb (2 ^ 40) m.figures.taken k)
+    ∙ cond_no (ltb 1296 1296) _ (Err FrameRoom) _ refl (le-ltb 1296 1296 (omega arith))
+    ∙ cond_no (ltb 3 x.dibit) _ (Err Dibit) _ refl (le-ltb 3 x.dibit (omega arith)))
 
 pub calm_rule_lem : calm_rule
 unfolding calm run
@@ -66,23 +63,18 @@ pub stretch_rule_lem : stretch_rule
 unfolding stretch_of
 stretch_rule_lem m n a b = let r = at_once_lem (calm m) (calm n) a b in record { some = r.0; calm = r.1 }
 
--- ---- the same of the code's numbers
-pub is_stretch : (m n : State) (p q a b k : ℕ) → p ≡ calm m → q ≡ calm n → k ≡ min (min p q) (min a b) → max 1 k ≡ stretch_of m n a b
-unfolding stretch_of at_once
-is_stretch m n p q a b k e f h = ap (max 1) h ∙ ap₂ (λ (c d : ℕ). at_once c d a b) e f
-
 -- ---- how far a stream is settled
-pub ended : (n : ℕ) (a : Push) (c : ℕ) → n ≡ 0 → Absent ≡ settled_by n a c
+pub ended : (n : ℕ) (a : Result Unit Refusal) (c : ℕ) → n ≡ 0 → None ≡ settled_by n a c
 unfolding settled_by
 ended zero a c e = refl
 ended (suc n) a c e = absurd (omega arith)
 
-pub goes_on : (n : ℕ) (a : Push) (c : ℕ) → (n ≡ 0 → ⊥) → a ≡ Taken → At c ≡ settled_by n a c
-unfolding settled_by
-goes_on zero a c h e = absurd (h refl)
-goes_on (suc n) a c h e = ap (λ (z : Push). settled_by (suc n) z c) (sym e)
+abbrev pub settled_at : Result Unit Refusal → ℕ → Option ℕ
+settled_at (Ok u) c = Some c
+settled_at (Err f) c = None
 
-pub was_refused : (n : ℕ) (a : Push) (c : ℕ) (f : Refusal) → a ≡ Refused f → Absent ≡ settled_by n a c
+pub going : (n : ℕ) (a : Result Unit Refusal) (c : ℕ) → (n ≡ 0 → ⊥) → settled_at a c ≡ settled_by n a c
 unfolding settled_by
-was_refused zero a c f e = refl
-was_refused (suc n) a c f e = ap (λ (z : Push). settled_by (suc n) z c) (sym e)
+going zero a c h = absurd (h refl)
+going (suc n) (Ok u) c h = refl
+going (suc n) (Err f) c h = refl

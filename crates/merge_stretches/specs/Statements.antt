@@ -1,7 +1,6 @@
 -- What holds of a stretch.
 -- Assumes nothing.
-use Rattle.std.specs.Prelude.{◌≡◌, ◌⊎◌, [], ℕ, suc, ◌≤◌, ◌<◌}
-use Rattle.sync_inputs.specs.declared.Push.TheVariants.{Taken}
+use Rattle.std.specs.Prelude.{◌≡◌, ◌⊎◌, [], ℕ, suc, ◌≤◌, ◌<◌, Ok}
 use Rattle.sync_inputs.specs.Answers.{answer_to}
 use Rattle.sync_rules.specs.State.{State, Input}
 use Rattle.sync_rules.specs.Pushes.{step}
@@ -9,7 +8,7 @@ use Rattle.merge_stretches.specs.Stretches.{calm, stretch_of}
 
 -- One dibit of a calm stretch: it is taken and sends nothing, the settled offset stays, and the rest of the stretch is as calm.
 pub record Calm (x : Input) (m : State) : Type 0 where
-  pub taken : answer_to 1296 x m ≡ Taken
+  pub taken : answer_to 1296 x m ≡ Ok tt
   pub sent : (step x m).sent ≡ []
   pub clock : (step x m).next.figures.clock ≡ m.figures.clock
   pub rest : calm m ≤ suc (calm (step x m).next)

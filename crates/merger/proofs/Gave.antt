@@ -1,51 +1,41 @@
 -- What each return of the code gives, as the contracts' records. Assumes nothing.
-use mathlib.Core.Path.{◌≡◌, refl, sym, ap, ap₂, subst, ◌∙◌}
-use mathlib.Core.Bool.{Bool, true, false, cond}
+use Rattle.std.proofs.Common.{Option, Ok, Err}
+use mathlib.Core.Path.{◌≡◌, refl, sym, ap, subst, ◌∙◌}
+use mathlib.Core.Bool.{Bool, false, cond}
 use mathlib.Core.List.{List, [], ◌∷◌}
-use Prim.Native.Nat.{ℕ, zero, suc, ◌+◌, ◌-◌, ◌^◌, ◌<◌, ◌≤◌}
+use Prim.Native.Nat.{ℕ, zero, suc, ◌+◌, ◌^◌, ◌<◌, ◌≤◌}
 use native.Mathlib.Nat.{not-suc-le-zero}
 use native.Mathlib.Omega.{arith}
 use lib.Dec.{ltb}
 use lib.ListN.{length, get_or, take, drop, set, length-set}
 use lib.Seq.{length-take-le, get_or-take, take-set-lt}
-use borrow.Author.Tests.{lt-ltb, le-ltb, le-leb, lt-leb}
-use Rattle.bits.specs.declared.Refusal.TheVariants.{Stream, Offset, Positions}
+use borrow.Author.Tests.{lt-ltb, le-ltb, lt-leb}
+use Rattle.bits.specs.declared.Refusal.TheVariants.{Positions}
 use Rattle.bits.proofs.Alls.{all_at}
-use Rattle.merger_rules.specs.declared.Clock.{Clock}
-use Rattle.merger_rules.specs.declared.Clock.TheVariants.{At}
 use Rattle.merger_rules.specs.declared.Held.{Held}
 use Rattle.merger_rules.specs.declared.Freed.{Freed}
 use Rattle.merger_rules.specs.declared.Position.{Position}
 use Rattle.merger.specs.declared.Merger.{Merger}
-use Rattle.merger_rules.specs.declared.Choice.{Choice}
-use Rattle.merger_rules.specs.declared.Choice.TheVariants.{Neither, Chosen}
-use Rattle.merger_rules.specs.declared.Keeping.{Keeping}
-use Rattle.merger_rules.specs.declared.Keeping.TheVariants.{Kept, Double, Late, Refused}
+use Rattle.merger_rules.specs.declared.Keeping.TheVariants.{Kept, Double}
 use Rattle.merger.specs.declared.AfterPush.{AfterPush}
 use Rattle.merger_rules.specs.declared.Released.{Released}
-use Rattle.merger_rules.specs.declared.Released.TheVariants.{Frame, PassedOver, NothingReady}
-use Rattle.merger.specs.declared.AfterRelease.{AfterRelease}
-use Rattle.merger_rules.specs.Merging.{View, view, is_late, home_of, order_of, insert_at, taken, filled, no_position, alone, PushStep, push_step, join_of, open_of, put_of, push_of, is_ready, choice_of, snapped, is_after, freed_of, none_freed, ReleaseStep, release_step, released_as, settle, release_from, release_of}
+use Rattle.merger_rules.specs.declared.Released.TheVariants.{NothingReady}
+use Rattle.merger_rules.specs.Merging.{view, home_of, order_of, insert_at, taken, filled, no_position, alone, PushStep, push_step, join_of, open_of, put_of, is_ready, choice_of, freed_of, none_freed, ReleaseStep, release_step, settle, release_from, release_of}
 use Rattle.merger.specs.States.{view_of, ValidMerger, PushGave, ReleaseGave}
-use Rattle.merger_rules.specs.States.{below_of, IsNear, FairChoice, Fair, key_at, Nowhere, Sound}
+use Rattle.merger_rules.specs.States.{below_of, IsNear, Fair, key_at, Nowhere, Sound}
 use Rattle.merger_rules.proofs.Homes.{stops, at_home, no_home, in_order}
-use Rattle.merger_steps.proofs.Search.{key_take}
-use Rattle.merger_rules.proofs.Sound.{join_sound, open_sound, rest_sound, give_sound, fair_choose}
+use Rattle.merger_rules.proofs.Sound.{join_sound, open_sound}
+
+key_take : (n : ℕ) (l : List Position) (i : ℕ) → i < n → key_at (take n l) i ≡ key_at l i
+key_take n l i h = ap (λ (p : Position). p.key) (get_or-take n l i no_position h)
 
 -- a record from one equation
-pub pushed_as : (m : Merger) (step : PushStep) (r : AfterPush) → step ≡ push_step r.answer (view_of r.merger) → Sound step.next → r.merger.n ≤ 16 → length r.merger.positions ≡ 16 → r.answer ≡ Kept → PushGave m step r
+pub pushed_as : (m : Merger) (step : PushStep) (r : AfterPush) → step ≡ push_step r.answer (view_of r.merger) → Sound step.next → r.merger.n ≤ 16 → length r.merger.positions ≡ 16 → r.answer ≡ Ok Kept → PushGave m step r
 pushed_as m step r e s w l k =
     record { answers = sym (ap (λ (x : PushStep). x.answer) e); leaves = sym f; valid = record { within = w; long = l; sound = subst Sound f s }; kept = λ h. absurd (h k) }
   where
     f : step.next ≡ view_of r.merger
     f = ap (λ (x : PushStep). x.next) e
-
-pub released_as_lem : (step : ReleaseStep) (r : AfterRelease) → step ≡ release_step r.answer r.freed (view_of r.merger) → Sound step.next → r.merger.n ≤ 16 → length r.merger.positions ≡ 16 → ReleaseGave step r
-released_as_lem step r e s w l =
-    record { answers = sym (ap (λ (x : ReleaseStep). x.answer) e); frees = sym (ap (λ (x : ReleaseStep). x.freed) e); leaves = sym f; valid = record { within = w; long = l; sound = subst Sound f s } }
-  where
-    f : step.next ≡ view_of r.merger
-    f = ap (λ (x : ReleaseStep). x.next) e
 
 module _ (m : Merger) (g : ValidMerger m) where
   pub len : length (take m.n m.positions) ≡ m.n
@@ -56,24 +46,10 @@ module _ (m : Merger) (g : ValidMerger m) where
       let e : length (take m.n m.positions) ≡ m.n = len in
       subst Fair (get_or-take m.n m.positions i no_position h) (all_at Fair no_position (take m.n m.positions) i g.sound.fair (omega arith))
 
-  -- refused, or told apart: the state is as it was
-  pub same : (step : PushStep) (a : Keeping) → step ≡ push_step a (view_of m) → PushGave m step (record { answer = a; merger = m })
-  same step a e = record { answers = sym (ap (λ (x : PushStep). x.answer) e); leaves = sym (ap (λ (x : PushStep). x.next) e); valid = g; kept = λ h. refl }
-
-  pub same_release : (step : ReleaseStep) (a : Released) (f : Freed) → step ≡ release_step a f (view_of m) → ReleaseGave step (record { answer = a; freed = f; merger = m })
-  same_release step a f e = record { answers = sym (ap (λ (x : ReleaseStep). x.answer) e); frees = sym (ap (λ (x : ReleaseStep). x.freed) e); leaves = sym (ap (λ (x : ReleaseStep). x.next) e); valid = g }
-
   module _ (s : ℕ) (h : Held) where
-    pub join_double : (at : ℕ) (t : Bool) → at < m.n → t ≡ true → t ≡ taken s (get_or m.positions at no_position) → PushGave m (join_of s h (view_of m) at) (record { answer = Double; merger = m })
-    join_double at t i x y =
-        same _ Double (ap (λ (b : Bool). cond b (push_step Double (view_of m)) (push_step Kept (view (set l at (filled s h (get_or l at no_position))) m.last))) (ap (λ (p : Position). taken s p) (get_or-take m.n m.positions at no_position i) ∙ sym y ∙ x))
-      where
-        l : List Position
-        l = take m.n m.positions
-
     pub join_kept : (at : ℕ) (t : Bool) (q : Position) → at < m.n → IsNear h.figures.offset (key_at m.positions at) → h.figures.offset ≤ 2 ^ 42
         → t ≡ false → t ≡ taken s (get_or m.positions at no_position) → q ≡ filled s h (get_or m.positions at no_position)
-        → PushGave m (join_of s h (view_of m) at) (record { answer = Kept; merger = record { n = m.n; positions = set m.positions at q; last = m.last } })
+        → PushGave m (join_of s h (view_of m) at) (record { answer = (Ok Kept); merger = record { n = m.n; positions = set m.positions at q; last = m.last } })
     join_kept at t q i n b x y z =
         pushed_as m _ _ whole
         (join_sound s h (view_of m) at g.sound (let e : length (take m.n m.positions) ≡ m.n = len in omega arith) (subst (λ (k : ℕ). IsNear h.figures.offset k) (sym (key_take m.n m.positions at i)) n) b)
@@ -87,18 +63,15 @@ module _ (m : Merger) (g : ValidMerger m) where
         e : get_or (take m.n m.positions) at no_position ≡ get_or m.positions at no_position
         e = get_or-take m.n m.positions at no_position i
 
-        whole : join_of s h (view_of m) at ≡ push_step Kept (view (take m.n (set m.positions at q)) m.last)
+        whole : join_of s h (view_of m) at ≡ push_step (Ok Kept) (view (take m.n (set m.positions at q)) m.last)
         whole =
-            ap (λ (b : Bool). cond b (push_step Double (view_of m)) (push_step Kept (view (set l at (filled s h (get_or l at no_position))) m.last))) (ap (λ (p : Position). taken s p) e ∙ sym y ∙ x)
-            ∙ ap (λ (p : Position). push_step Kept (view (set l at p) m.last)) (ap (λ (p : Position). filled s h p) e ∙ sym z)
-            ∙ ap (λ (k : List Position). push_step Kept (view k m.last)) (sym (take-set-lt m.n m.positions at q i))
-
-    pub open_full : (at : ℕ) → 16 ≤ m.n → PushGave m (open_of s h (view_of m) at) (record { answer = Refused Positions; merger = m })
-    open_full at w = same _ (Refused Positions) (let e : length (take m.n m.positions) ≡ m.n = len in let f : 16 ≤ length (take m.n m.positions) = omega arith in simp (le-leb _ _ f))
+            ap (λ (b : Bool). cond b (push_step (Ok Double) (view_of m)) (push_step (Ok Kept) (view (set l at (filled s h (get_or l at no_position))) m.last))) (ap (λ (p : Position). taken s p) e ∙ sym y ∙ x)
+            ∙ ap (λ (p : Position). push_step (Ok Kept) (view (set l at p) m.last)) (ap (λ (p : Position). filled s h p) e ∙ sym z)
+            ∙ ap (λ (k : List Position). push_step (Ok Kept) (view k m.last)) (sym (take-set-lt m.n m.positions at q i))
 
     pub open_kept : (at : ℕ) (p : Position) (r : List Position) → at ≡ below_of h.figures.offset (take m.n m.positions) → Nowhere h.figures.offset (take m.n m.positions) → h.figures.offset ≤ 2 ^ 42
         → m.n < 16 → p ≡ alone s h → take (m.n + 1) r ≡ insert_at at p (take m.n m.positions) → length r ≡ 16
-        → PushGave m (open_of s h (view_of m) at) (record { answer = Kept; merger = record { n = m.n + 1; positions = r; last = m.last } })
+        → PushGave m (open_of s h (view_of m) at) (record { answer = (Ok Kept); merger = record { n = m.n + 1; positions = r; last = m.last } })
     open_kept at p r a n b w y z k =
         pushed_as m _ _ whole
         (subst (λ (i : ℕ). Sound (open_of s h (view_of m) i).next) (sym a) (open_sound s h (view_of m) g.sound n b))
@@ -109,13 +82,13 @@ module _ (m : Merger) (g : ValidMerger m) where
         l : List Position
         l = take m.n m.positions
 
-        whole : open_of s h (view_of m) at ≡ push_step Kept (view (take (m.n + 1) r) m.last)
+        whole : open_of s h (view_of m) at ≡ push_step (Ok Kept) (view (take (m.n + 1) r) m.last)
         whole =
             let e : length (take m.n m.positions) ≡ m.n = len in
             let f : length (take m.n m.positions) < 16 = omega arith in
-            ap (λ (b : Bool). cond b (push_step (Refused Positions) (view_of m)) (push_step Kept (view (insert_at at (alone s h) l) m.last))) (lt-leb _ _ f)
-            ∙ ap (λ (q : Position). push_step Kept (view (insert_at at q l) m.last)) (sym y)
-            ∙ ap (λ (k : List Position). push_step Kept (view k m.last)) (sym z)
+            ap (λ (b : Bool). cond b (push_step (Err Positions) (view_of m)) (push_step (Ok Kept) (view (insert_at at (alone s h) l) m.last))) (lt-leb _ _ f)
+            ∙ ap (λ (q : Position). push_step (Ok Kept) (view (insert_at at q l) m.last)) (sym y)
+            ∙ ap (λ (k : List Position). push_step (Ok Kept) (view k m.last)) (sym z)
 
     -- the frame belongs to the position that the search found
     pub put_join : (at : ℕ) (r : AfterPush) → at ≡ below_of h.figures.offset (take m.n m.positions) → at < m.n → key_at m.positions at ≤ h.figures.offset + 191
@@ -174,41 +147,12 @@ module _ (m : Merger) (g : ValidMerger m) where
   pub nowhere_above : (o at : ℕ) → at ≡ below_of o (take m.n m.positions) → at < m.n → o + 191 < key_at m.positions at → Nowhere o (take m.n m.positions)
   nowhere_above o at a i h q = subst (λ (j : ℕ). o + 191 < key_at (take m.n m.positions) j) a (subst (λ (k : ℕ). o + 191 < k) (sym (key_take m.n m.positions at i)) h)
 
-  -- the first position taken out
-  pub out_gave : (r : List Position) → 0 < m.n → take (m.n - 1) r ≡ drop 1 (take m.n m.positions) → length r ≡ 16
-      → (view_of (record { n = m.n - 1; positions = r; last = m.last }) ≡ view (drop 1 (take m.n m.positions)) m.last) × ValidMerger (record { n = m.n - 1; positions = r; last = m.last })
-  out_gave r p e k = (f, record { within = let w : m.n ≤ 16 = g.within in omega arith; long = k; sound = subst Sound (sym f) (rest_sound (take m.n m.positions) m.last g.sound) })
-    where
-      f : view (take (m.n - 1) r) m.last ≡ view (drop 1 (take m.n m.positions)) m.last
-      f = ap (λ (l : List Position). view l m.last) e
+  -- ── a release that takes nothing out ──
 
-  -- what becomes of the chosen frame
-  pub give_neither : (c : Choice) (f : Freed) → c ≡ Neither → ReleaseGave (settle c f (take m.n m.positions) m.last) (record { answer = PassedOver; freed = f; merger = m })
-  give_neither c f e = same_release _ PassedOver f (ap (λ (x : Choice). settle x f (take m.n m.positions) m.last) e)
+  pub same_release : (step : ReleaseStep) (a : Released) (f : Freed) → step ≡ release_step a f (view_of m) → ReleaseGave step (record { answer = a; freed = f; merger = m })
+  same_release step a f e = record { answers = sym (ap (λ (x : ReleaseStep). x.answer) e); frees = sym (ap (λ (x : ReleaseStep). x.freed) e); leaves = sym (ap (λ (x : ReleaseStep). x.next) e); valid = g }
 
-  module _ (c : Choice) (f : Freed) (h : Held) (b : Bool) (to : ℕ) (t : Bool) (e : c ≡ Chosen h b) (y : to ≡ snapped m.last h.figures.offset) (z : t ≡ is_after m.last to) where
-    settled : settle c f (take m.n m.positions) m.last
-        ≡ cond t (release_step (Frame (released_as to h b)) f (view (take m.n m.positions) (At to))) (release_step PassedOver f (view_of m))
-    settled =
-        ap (λ (x : Choice). settle x f (take m.n m.positions) m.last) e
-        ∙ ap (λ (o : ℕ). cond (is_after m.last o) (release_step (Frame (released_as o h b)) f (view (take m.n m.positions) (At o))) (release_step PassedOver f (view_of m))) (sym y)
-        ∙ ap (λ (w : Bool). cond w (release_step (Frame (released_as to h b)) f (view (take m.n m.positions) (At to))) (release_step PassedOver f (view_of m))) (sym z)
-
-    pub give_frame : FairChoice c → t ≡ true
-        → ReleaseGave (settle c f (take m.n m.positions) m.last) (record { answer = Frame (released_as to h b); freed = f; merger = record { n = m.n; positions = m.positions; last = At to } })
-    give_frame g' x =
-        released_as_lem _ _
-        (settled ∙ ap (λ (w : Bool). cond w (release_step (Frame (released_as to h b)) f (view (take m.n m.positions) (At to))) (release_step PassedOver f (view_of m))) x)
-        (give_sound c f (take m.n m.positions) m.last g.sound g')
-        g.within
-        g.long
-
-    pub give_over : t ≡ false → ReleaseGave (settle c f (take m.n m.positions) m.last) (record { answer = PassedOver; freed = f; merger = m })
-    give_over x = same_release _ PassedOver f (settled ∙ ap (λ (w : Bool). cond w (release_step (Frame (released_as to h b)) f (view (take m.n m.positions) (At to))) (release_step PassedOver f (view_of m))) x)
-
-  -- ── a release ──
-
-  module _ (s₀ s₁ : Clock) (flush : Bool) where
+  module _ (s₀ s₁ : Option ℕ) (flush : Bool) where
     pub release_empty : m.n ≡ 0 → ReleaseGave (release_of s₀ s₁ flush (view_of m)) (record { answer = NothingReady; freed = none_freed; merger = m })
     release_empty e = same_release _ NothingReady none_freed (subst (λ (n : ℕ). release_from s₀ s₁ flush (take n m.positions) m.last ≡ release_step NothingReady none_freed (view (take n m.positions) m.last)) (sym e) refl)
 
@@ -233,39 +177,3 @@ module _ (m : Merger) (g : ValidMerger m) where
 
         ps : List Position
         ps = drop 1 (take m.n m.positions)
-
-    pub release_ready : (t : Bool) (q : Merger) (c : Choice) (f : Freed) (r : AfterRelease) → 0 < m.n → t ≡ true → t ≡ is_ready s₀ s₁ flush (get_or m.positions 0 no_position)
-        → view_of q ≡ view (drop 1 (take m.n m.positions)) m.last → c ≡ choice_of (get_or m.positions 0 no_position) → f ≡ freed_of (get_or m.positions 0 no_position)
-        → ReleaseGave (settle c f (take q.n q.positions) q.last) r → ReleaseGave (release_of s₀ s₁ flush (view_of m)) r
-    release_ready t q c f r h x y v e d z = subst (λ (z : ReleaseStep). ReleaseGave z r) (sym whole) z
-      where
-        p : Position
-        p = get_or m.positions 0 no_position
-
-        ps : List Position
-        ps = drop 1 (take m.n m.positions)
-
-        whole : release_of s₀ s₁ flush (view_of m) ≡ settle c f (take q.n q.positions) q.last
-        whole =
-            ap (λ (l : List Position). release_from s₀ s₁ flush l m.last) (split h)
-            ∙ ap (λ (b : Bool). cond b (settle (choice_of p) (freed_of p) ps m.last) (release_step NothingReady none_freed (view (p ∷ ps) m.last))) (sym y ∙ x)
-            ∙ ap₂ (λ (z : Choice) (w : View). settle z (freed_of p) w.pending w.last) (sym e) (sym v)
-            ∙ ap (λ (z : Freed). settle c z (take q.n q.positions) q.last) (sym d)
-
-    pub fair_first : (c : Choice) → 0 < m.n → c ≡ choice_of (get_or m.positions 0 no_position) → FairChoice c
-    fair_first c h e = let p : Position = get_or m.positions 0 no_position in let f : Fair p = fair_of 0 h in subst FairChoice (sym e) (fair_choose p.key p.primary p.alternate f.first f.second)
-
--- a push that is not refused
-pub push_on : (m : Merger) (s : ℕ) (h : Held) (r : AfterPush) (t : Bool) → s ≤ 1 → h.figures.offset ≤ 2 ^ 42 → t ≡ false → t ≡ is_late m.last h.figures.offset
-    → PushGave m (put_of s h (view_of m)) r → PushGave m (push_of s h (view_of m)) r
-push_on m s h r t a b x y q = simp (le-ltb 1 s a, le-ltb (2 ^ 42) h.figures.offset b, sym y ∙ x) q
-
-pub push_late : (m : Merger) (s : ℕ) (h : Held) (t : Bool) → s ≤ 1 → h.figures.offset ≤ 2 ^ 42 → t ≡ true → t ≡ is_late m.last h.figures.offset
-    → push_of s h (view_of m) ≡ push_step Late (view_of m)
-push_late m s h t a b x y = simp (le-ltb 1 s a, le-ltb (2 ^ 42) h.figures.offset b, sym y ∙ x)
-
-pub push_offset : (m : Merger) (s : ℕ) (h : Held) → s ≤ 1 → 2 ^ 42 < h.figures.offset → push_of s h (view_of m) ≡ push_step (Refused Offset) (view_of m)
-push_offset m s h a b = simp (le-ltb 1 s a, lt-ltb (2 ^ 42) h.figures.offset b)
-
-pub push_stream : (m : Merger) (s : ℕ) (h : Held) → 1 < s → push_of s h (view_of m) ≡ push_step (Refused Stream) (view_of m)
-push_stream m s h a = simp (lt-ltb 1 s a)

@@ -1,5 +1,5 @@
 -- The merger's state as a view, what holds of it, and the contracts' records. What the answers are is defined in merger_rules. Assumes nothing.
-use Rattle.std.specs.Prelude.{◌≡◌, ◌≤◌, length, take}
+use Rattle.std.specs.Prelude.{◌≡◌, ◌≤◌, length, take, Ok}
 use Rattle.merger_rules.specs.declared.Keeping.TheVariants.{Kept}
 use Rattle.merger_rules.specs.Merging.{View, view, PushStep, ReleaseStep}
 use Rattle.merger_rules.specs.States.{Sound}
@@ -23,7 +23,7 @@ pub record PushGave (m : Merger) (step : PushStep) (r : AfterPush) : Type 0 wher
   pub leaves : view_of r.merger ≡ step.next
   pub valid : ValidMerger r.merger
   -- refused, late or double: the merger itself comes back
-  pub kept : (r.answer ≡ Kept → ⊥) → r.merger ≡ m
+  pub kept : (r.answer ≡ Ok Kept → ⊥) → r.merger ≡ m
 
 pub record ReleaseGave (step : ReleaseStep) (r : AfterRelease) : Type 0 where
   pub answers : r.answer ≡ step.answer

@@ -17,26 +17,19 @@ pub(crate) fn join(m: Merger, at: usize, stream: usize, h: Held) -> AfterPush
     requires fact_4 { h.figures.offset ≤ most_offset }
     ensures { PushGave m (join_of stream h (view_of m) at) result }
 {
-    let positions = m.positions;
-    let last = m.last;
-    let n = m.n;
-    let p = positions[at];
-    if is_taken(p, stream) {
+    let before = m.positions[at];
+    if is_taken(before, stream) {
         return AfterPush {
-            answer: Keeping::Double,
+            answer: Ok(Keeping::Double),
             merger: m,
         };
     }
-    let q = with_frame(p, stream, h);
-    let mut next = positions;
-    next[at] = q;
+    let filled = with_frame(before, stream, h);
+    let mut merger = m;
+    merger.positions[at] = filled;
     AfterPush {
-        answer: Keeping::Kept,
-        merger: Merger {
-            n: n,
-            positions: next,
-            last: last,
-        },
+        answer: Ok(Keeping::Kept),
+        merger,
     }
 }
 
@@ -49,24 +42,18 @@ pub(crate) fn open(m: Merger, at: usize, stream: usize, h: Held) -> AfterPush
     requires fact_5 { h.figures.offset ≤ most_offset }
     ensures { PushGave m (open_of stream h (view_of m) at) result }
 {
-    let n = m.n;
-    if 16 <= n {
+    if 16 <= m.n {
         return AfterPush {
-            answer: Keeping::Refused(Refusal::Positions),
+            answer: Err(Refusal::Positions),
             merger: m,
         };
     }
-    let positions = m.positions;
-    let last = m.last;
-    let p = opened(stream, h);
-    let next = with_position(positions, n, at, p);
-    let more = n + 1;
     AfterPush {
-        answer: Keeping::Kept,
+        answer: Ok(Keeping::Kept),
         merger: Merger {
-            n: more,
-            positions: next,
-            last: last,
+            n: m.n + 1,
+            positions: with_position(m.positions, m.n, at, opened(stream, h)),
+            ..m
         },
     }
 }
@@ -77,16 +64,10 @@ pub(crate) fn put(m: Merger, stream: usize, h: Held) -> AfterPush
     requires fact_2 { h.figures.offset ≤ most_offset }
     ensures { PushGave m (put_of stream h (view_of m)) result }
 {
-    let n = m.n;
-    let positions = m.positions;
-    let offset = h.figures.offset;
-    let at = below(positions, n, offset);
-    if n <= at {
-        return open(m, at, stream, h);
+    let at = below(m.positions, m.n, h.figures.offset);
+    if at < m.n && m.positions[at].key <= h.figures.offset + 191 {
+        join(m, at, stream, h)
+    } else {
+        open(m, at, stream, h)
     }
-    let key = positions[at].key;
-    if offset + 191 < key {
-        return open(m, at, stream, h);
-    }
-    join(m, at, stream, h)
 }

@@ -1,4 +1,5 @@
 -- Numbers: what was kept is given back once or pending, and what is handed on is given back. Assumes nothing.
+use Rattle.std.proofs.Common.{Option, Some, None}
 use mathlib.Core.Path.{◌≡◌, refl, ap, ◌∙◌}
 use mathlib.Core.Bool.{Bool, true, false, not, ◌||◌}
 use mathlib.Core.List.{List, [], ◌∷◌, ◌++◌}
@@ -7,25 +8,21 @@ use native.Mathlib.Nat.{not-suc-le-zero, le_of_suc-le-suc}
 use native.Mathlib.Omega.{arith}
 use lib.ListN.{length, get_or, set}
 use Rattle.bits.proofs.Conds.{cond_both}
-use Rattle.merger_rules.specs.declared.Clock.{Clock}
 use Rattle.merger_rules.specs.declared.Held.{Held}
 use Rattle.merger_rules.specs.declared.Freed.{Freed}
-use Rattle.merger_rules.specs.declared.Place.{Place}
-use Rattle.merger_rules.specs.declared.Place.TheVariants.{Empty, Holds}
 use Rattle.merger_rules.specs.declared.Position.{Position}
-use Rattle.merger_rules.specs.declared.Choice.{Choice}
-use Rattle.merger_rules.specs.declared.Choice.TheVariants.{Neither, Chosen}
+use Rattle.merger_rules.specs.declared.Chosen.{Chosen}
 use Rattle.merger_rules.specs.declared.Release.{Release}
-use Rattle.merger_rules.specs.Merging.{View, home_of, order_of, insert_at, is_held, taken, filled, no_position, alone, PushStep, push_of, is_ready, choose_of, choice_of, snapped, is_after, free_of, freed_of, ReleaseStep, settle, release_from, release_of}
+use Rattle.merger_rules.specs.Merging.{chosen, View, home_of, order_of, insert_at, is_held, taken, filled, no_position, alone, PushStep, push_of, is_ready, choose_of, choice_of, snapped, is_after, free_of, freed_of, ReleaseStep, settle, release_from, release_of}
 use Rattle.merger_rules.specs.Scripts.{Call, started, given, releases, left, push, release}
 use Rattle.merger_rules.specs.Counts.{one, in_place, in_free, pending_of, released_of, kept_by, kept_of, in_freed, freed_in}
 use Rattle.merger_rules.proofs.Contrary.{contrary}
 use Rattle.merger_rules.proofs.Pushes.{push_cases, join_cases, open_cases}
 
 module _ (x : ℕ) where
-  empty : (q : Place) → is_held q ≡ false → in_place x q ≡ 0
-  empty Empty e = refl
-  empty (Holds h) e = contrary cc
+  empty : (q : Option Held) → is_held q ≡ false → in_place x q ≡ 0
+  empty None e = refl
+  empty (Some h) e = contrary cc
 
   place_filled : (s : ℕ) (h : Held) (p : Position) → taken s p ≡ false
       → in_place x (filled s h p).primary + in_place x (filled s h p).alternate ≡ one x h.number + (in_place x p.primary + in_place x p.alternate)
@@ -65,34 +62,34 @@ module _ (x : ℕ) where
       (λ _. pending_insert (order_of h.figures.offset v.pending) (alone s h) v.pending ∙ ap (λ (n : ℕ). n + pending_of x v.pending) (place_alone s h)))
 
   -- what a place gives back is what it held
-  free_place : (q : Place) → in_free x (free_of q) ≡ in_place x q
-  free_place Empty = refl
-  free_place (Holds h) = refl
+  free_place : (q : Option Held) → in_free x (free_of q) ≡ in_place x q
+  free_place None = refl
+  free_place (Some h) = refl
 
   -- of a release: what it gives back and leaves was pending, and what it hands on is given back
   record Told (l : List Position) (y : ReleaseStep) : Type 0 where
     balance : pending_of x l ≡ in_freed x y.freed + pending_of x y.next.pending
     within : released_of x (given y.answer) ≤ in_freed x y.freed
 
-  chosen_of : Choice → ℕ
-  chosen_of Neither = 0
-  chosen_of (Chosen h b) = one x h.number
+  chosen_of : Option Chosen → ℕ
+  chosen_of None = 0
+  chosen_of (Some c) = one x c.frame.number
 
-  chosen_one : (a b : Place) → chosen_of (choose_of a b) ≤ in_place x a + in_place x b
+  chosen_one : (a b : Option Held) → chosen_of (choose_of a b) ≤ in_place x a + in_place x b
   unfolding chosen_of
-  chosen_one Empty Empty = omega arith
-  chosen_one Empty (Holds h) = omega arith
-  chosen_one (Holds h) Empty = omega arith
-  chosen_one (Holds h) (Holds i) =
-      cond_both (λ (c : Choice). chosen_of c ≤ one x h.number + one x i.number) (h.check || not i.check) (Chosen h false) (Chosen i true) (omega arith) (omega arith)
+  chosen_one None None = omega arith
+  chosen_one None (Some h) = omega arith
+  chosen_one (Some h) None = omega arith
+  chosen_one (Some h) (Some i) =
+      cond_both (λ (c : Option Chosen). chosen_of c ≤ one x h.number + one x i.number) (h.check || not i.check) (chosen h false) (chosen i true) (omega arith) (omega arith)
 
-  settle_told : (c : Choice) (f : Freed) (l ps : List Position) (last : Clock) → pending_of x l ≡ in_freed x f + pending_of x ps → chosen_of c ≤ in_freed x f → Told l (settle c f ps last)
+  settle_told : (c : Option Chosen) (f : Freed) (l ps : List Position) (last : Option ℕ) → pending_of x l ≡ in_freed x f + pending_of x ps → chosen_of c ≤ in_freed x f → Told l (settle c f ps last)
   unfolding released_of chosen_of
-  settle_told Neither f l ps last e k = record { balance = e; within = omega arith }
-  settle_told (Chosen h b) f l ps last e k =
-      cond_both (Told l) (is_after last (snapped last h.figures.offset)) _ _ (record { balance = e; within = omega arith }) (record { balance = e; within = omega arith })
+  settle_told None f l ps last e k = record { balance = e; within = omega arith }
+  settle_told (Some c) f l ps last e k =
+      cond_both (Told l) (is_after last (snapped last c.frame.figures.offset)) _ _ (record { balance = e; within = omega arith }) (record { balance = e; within = omega arith })
 
-  release_told : (s₀ s₁ : Clock) (flush : Bool) (l : List Position) (last : Clock) → Told l (release_from s₀ s₁ flush l last)
+  release_told : (s₀ s₁ : Option ℕ) (flush : Bool) (l : List Position) (last : Option ℕ) → Told l (release_from s₀ s₁ flush l last)
   unfolding released_of pending_of
   release_told s₀ s₁ flush [] last = record { balance = refl; within = omega arith }
   release_told s₀ s₁ flush (p ∷ ps) last =

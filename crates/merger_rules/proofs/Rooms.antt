@@ -1,4 +1,5 @@
 -- How many positions can be pending, and that they never fill up for a caller that releases all that is ready. Assumes nothing.
+use Rattle.std.proofs.Common.{Option, Some, None, Err}
 use mathlib.Core.Path.{◌≡◌, refl, sym, subst, ap, ◌∙◌}
 use mathlib.Core.Bool.{Bool, true, false, cond, ◌&&◌}
 use mathlib.Core.List.{List, [], ◌∷◌, ◌++◌}
@@ -10,13 +11,8 @@ use Rattle.bits.specs.Alls.{All}
 use Rattle.bits.specs.declared.Refusal.TheVariants.{Positions}
 use Rattle.sync_rules.specs.Moves.{no_moves}
 use Rattle.bits.proofs.Alls.{all_at, all_set, all_map}
-use Rattle.merger_rules.specs.declared.Clock.{Clock}
-use Rattle.merger_rules.specs.declared.Clock.TheVariants.{At, Absent}
 use Rattle.merger_rules.specs.declared.Held.{Held}
-use Rattle.merger_rules.specs.declared.Place.{Place}
-use Rattle.merger_rules.specs.declared.Place.TheVariants.{Empty, Holds}
 use Rattle.merger_rules.specs.declared.Position.{Position}
-use Rattle.merger_rules.specs.declared.Keeping.TheVariants.{Refused}
 use Rattle.merger_rules.specs.Merging.{View, view, held_of, home_of, order_of, no_position, alone, PushStep, push_of, passed, is_ready, release_of}
 use Rattle.merger_rules.specs.States.{Spaced, Sound}
 use Rattle.merger_rules.specs.Scripts.{started}
@@ -42,11 +38,11 @@ NearAt d a b p = Near d a b p.key
 -- the first position is not ready
 abbrev Waits : ℕ → ℕ → List Position → Type 0
 Waits a b [] = Unit {0}
-Waits a b (p ∷ ps) = is_ready (At a) (At b) false p ≡ false
+Waits a b (p ∷ ps) = is_ready (Some a) (Some b) false p ≡ false
 
-not_passed : (s k : ℕ) (q : Place) → passed (At s) k q ≡ false → s ≤ k + 191
-not_passed s k Empty e = omega (arith, ltb-false _ s e)
-not_passed s k (Holds h) e = contrary cc
+not_passed : (s k : ℕ) (q : Option Held) → passed (Some s) k q ≡ false → s ≤ k + 191
+not_passed s k None e = omega (arith, ltb-false _ s e)
+not_passed s k (Some h) e = contrary cc
 
 -- keys lie 192 apart or more
 counted : (m : ℕ) (p : Position) (ps : List Position) → Spaced (p ∷ ps) → All (λ q. q.key ≤ m) (p ∷ ps) → p.key + 192 * length ps ≤ m
@@ -58,7 +54,7 @@ counted m p (q ∷ ps) s a =
 
 few_wait : (d a b : ℕ) (l : List Position) → Spaced l → All (NearAt d a b) l → Waits a b l → 192 * length l ≤ d + 383
 few_wait d a b [] s n w = omega arith
-few_wait d a b (p ∷ ps) s n w = by (passed (At a) p.key p.primary) refl (passed (At b) p.key p.alternate) refl w
+few_wait d a b (p ∷ ps) s n w = by (passed (Some a) p.key p.primary) refl (passed (Some b) p.key p.alternate) refl w
   where
     under : p.key + 192 * length ps ≤ a + d
     under = counted (a + d) p ps s (all_map {Q = NearAt d a b} {R = λ q. q.key ≤ a + d} (λ q k. k.0) (p ∷ ps) n)
@@ -66,47 +62,47 @@ few_wait d a b (p ∷ ps) s n w = by (passed (At a) p.key p.primary) refl (passe
     other : p.key + 192 * length ps ≤ b + d
     other = counted (b + d) p ps s (all_map {Q = NearAt d a b} {R = λ q. q.key ≤ b + d} (λ q k. k.1) (p ∷ ps) n)
 
-    by : (x : Bool) → passed (At a) p.key p.primary ≡ x → (y : Bool) → passed (At b) p.key p.alternate ≡ y → (x && y) ≡ false → 192 * suc (length ps) ≤ d + 383
+    by : (x : Bool) → passed (Some a) p.key p.primary ≡ x → (y : Bool) → passed (Some b) p.key p.alternate ≡ y → (x && y) ≡ false → 192 * suc (length ps) ≤ d + 383
     by true e true f g = contrary cc
     by true e false f g = let h : b ≤ p.key + 191 = not_passed b p.key p.alternate f in let k : p.key + 192 * length ps ≤ b + d = other in omega arith
     by false e y f g = let h : a ≤ p.key + 191 = not_passed a p.key p.primary e in let k : p.key + 192 * length ps ≤ a + d = under in omega arith
 
 -- ── all that is ready, released ──
 
-source_waits : (a b : ℕ) (l : List Position) (last : Clock) → Waits a b (source_release (At a) (At b) false l last).next.pending
+source_waits : (a b : ℕ) (l : List Position) (last : Option ℕ) → Waits a b (source_release (Some a) (Some b) false l last).next.pending
 source_waits a b [] last = tt
-source_waits a b (p ∷ ps) last = by (slot_ready (At a) p.key p.primary && slot_ready (At b) p.key p.alternate) refl (source_waits a b ps (turn_of p.primary p.alternate last).released)
+source_waits a b (p ∷ ps) last = by (slot_ready (Some a) p.key p.primary && slot_ready (Some b) p.key p.alternate) refl (source_waits a b ps (turn_of p.primary p.alternate last).released)
   where
     rest : Many
-    rest = source_release (At a) (At b) false ps (turn_of p.primary p.alternate last).released
+    rest = source_release (Some a) (Some b) false ps (turn_of p.primary p.alternate last).released
 
-    by : (t : Bool) → (slot_ready (At a) p.key p.primary && slot_ready (At b) p.key p.alternate) ≡ t → Waits a b rest.next.pending
+    by : (t : Bool) → (slot_ready (Some a) p.key p.primary && slot_ready (Some b) p.key p.alternate) ≡ t → Waits a b rest.next.pending
         → Waits a b (cond t (many ((turn_of p.primary p.alternate last).out ++ rest.frames) rest.next) (many [] (view (p ∷ ps) last))).next.pending
     by true e r = r
-    by false e r = sym (ready_same (At a) (At b) false p) ∙ e
+    by false e r = sym (ready_same (Some a) (Some b) false p) ∙ e
 
 module _ (a b : ℕ) where
-  times_sound : (n : ℕ) (v : View) → Sound v → Sound (times n (At a) (At b) false v).next
+  times_sound : (n : ℕ) (v : View) → Sound v → Sound (times n (Some a) (Some b) false v).next
   times_sound zero v g = g
-  times_sound (suc n) v g = times_sound n (release_of (At a) (At b) false v).next (release_sound (At a) (At b) false v.pending v.last g)
+  times_sound (suc n) v g = times_sound n (release_of (Some a) (Some b) false v).next (release_sound (Some a) (Some b) false v.pending v.last g)
 
-  times_all : (P : Position → Type 0) (n : ℕ) (v : View) → All P v.pending → All P (times n (At a) (At b) false v).next.pending
+  times_all : (P : Position → Type 0) (n : ℕ) (v : View) → All P v.pending → All P (times n (Some a) (Some b) false v).next.pending
   times_all P zero v g = g
-  times_all P (suc n) v g = times_all P n (release_of (At a) (At b) false v).next (release_all P (At a) (At b) false v.pending v.last g)
+  times_all P (suc n) v g = times_all P n (release_of (Some a) (Some b) false v).next (release_all P (Some a) (Some b) false v.pending v.last g)
 
-  times_waits : (v : View) → Sound v → Waits a b (times 16 (At a) (At b) false v).next.pending
+  times_waits : (v : View) → Sound v → Waits a b (times 16 (Some a) (Some b) false v).next.pending
   times_waits v g =
-      subst (λ (y : Many). Waits a b y.next.pending) (sym (repeated (At a) (At b) false v.pending v.last 16 g.few)) (source_waits a b v.pending v.last)
+      subst (λ (y : Many). Waits a b y.next.pending) (sym (repeated (Some a) (Some b) false v.pending v.last 16 g.few)) (source_waits a b v.pending v.last)
 
 -- ── a push ──
 
 -- of a push into fewer than 16 positions: not refused for want of one; one more at most
 record Grown (v : View) (y : PushStep) : Type 0 where
-  room : length v.pending < 16 → y.answer ≡ Refused Positions → ⊥
+  room : length v.pending < 16 → y.answer ≡ Err Positions → ⊥
   long : length y.next.pending ≤ suc (length v.pending)
 
 module _ (s : ℕ) (h : Held) (v : View) where
-  as_long : (y : PushStep) → (y.answer ≡ Refused Positions → ⊥) → length y.next.pending ≤ suc (length v.pending) → Grown v y
+  as_long : (y : PushStep) → (y.answer ≡ Err Positions → ⊥) → length y.next.pending ≤ suc (length v.pending) → Grown v y
   as_long y r l = record { room = λ _. r; long = l }
 
   push_grown : Grown v (push_of s h v)
@@ -176,17 +172,17 @@ standing zero o = []
 standing (suc n) o = alone 0 (lone o) ∷ standing n (o + 384)
 
 abbrev stood : ℕ → View
-stood n = view (standing n 0) Absent
+stood n = view (standing n 0) None
 
 -- releases that find nothing ready leave the state
-times_still : (n a b : ℕ) (v : View) → (release_of (At a) (At b) false v).next ≡ v → (times n (At a) (At b) false v).next ≡ v
+times_still : (n a b : ℕ) (v : View) → (release_of (Some a) (Some b) false v).next ≡ v → (times n (Some a) (Some b) false v).next ≡ v
 times_still zero a b v e = refl
-times_still (suc n) a b v e = ap (λ (w : View). (times n (At a) (At b) false w).next) e ∙ times_still n a b v e
+times_still (suc n) a b v e = ap (λ (w : View). (times n (Some a) (Some b) false w).next) e ∙ times_still n a b v e
 
 -- a round whose frame is pushed and that releases nothing
-next : (n o : ℕ) (v w : View) → (push_of 0 (lone o) v).next ≡ w → (release_of (At (o + 384)) (At 0) false w).next ≡ w → RoomIn (one_sided (suc n) o) v → RoomIn (one_sided n (o + 384)) w
+next : (n o : ℕ) (v w : View) → (push_of 0 (lone o) v).next ≡ w → (release_of (Some (o + 384)) (Some 0) false w).next ≡ w → RoomIn (one_sided (suc n) o) v → RoomIn (one_sided n (o + 384)) w
 next n o v w p s r =
-    subst (RoomIn (one_sided n (o + 384))) (ap (λ (x : View). (times 16 (At (o + 384)) (At 0) false x).next) p ∙ times_still 16 (o + 384) 0 w s) r.1
+    subst (RoomIn (one_sided n (o + 384))) (ap (λ (x : View). (times 16 (Some (o + 384)) (Some 0) false x).next) p ∙ times_still 16 (o + 384) 0 w s) r.1
 
 -- while the other stands still: the seventeenth frame finds no position
 pub seventeen : RoomIn (one_sided 17 0) started → ⊥

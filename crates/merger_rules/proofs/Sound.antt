@@ -1,4 +1,5 @@
 -- What each step of a call leaves is sound: laws of the definitions. Assumes nothing.
+use Rattle.std.proofs.Common.{Option, Some, None}
 use mathlib.Core.Path.{◌≡◌, refl, sym, subst}
 use mathlib.Core.Bool.{Bool, true, false, cond, not, ◌||◌, or-true}
 use mathlib.Core.List.{List, [], ◌∷◌}
@@ -10,15 +11,11 @@ use lib.ListN.{length, get_or, drop, set, length-set}
 use borrow.Author.Tests.{ltb-true, leb-false}
 use Rattle.bits.proofs.Alls.{all_at, all_set}
 use Rattle.bits.proofs.Conds.{cond_both}
-use Rattle.merger_rules.specs.declared.Clock.{Clock}
 use Rattle.merger_rules.specs.declared.Held.{Held}
 use Rattle.merger_rules.specs.declared.Freed.{Freed}
-use Rattle.merger_rules.specs.declared.Place.{Place}
-use Rattle.merger_rules.specs.declared.Place.TheVariants.{Empty, Holds}
 use Rattle.merger_rules.specs.declared.Position.{Position}
-use Rattle.merger_rules.specs.declared.Choice.{Choice}
-use Rattle.merger_rules.specs.declared.Choice.TheVariants.{Neither, Chosen}
-use Rattle.merger_rules.specs.Merging.{View, view, insert_at, is_held, filled, no_position, alone, PushStep, join_of, open_of, choose_of, snapped, is_after, ReleaseStep, settle}
+use Rattle.merger_rules.specs.declared.Chosen.{Chosen}
+use Rattle.merger_rules.specs.Merging.{chosen, View, view, insert_at, is_held, filled, no_position, alone, PushStep, join_of, open_of, choose_of, snapped, is_after, ReleaseStep, settle}
 use Rattle.merger_rules.specs.States.{below_of, IsNear, FairPlace, FairChoice, Fair, key_at, Nowhere, Under, Spaced, Sound}
 use Rattle.merger_rules.proofs.Pushes.{join_cases, open_cases}
 use Rattle.merger_rules.proofs.Inserts.{length_insert, all_insert}
@@ -103,24 +100,24 @@ open_sound s h v g n b =
 
 -- ── a release ──
 
-pub rest_sound : (l : List Position) (last : Clock) → Sound (view l last) → Sound (view (drop 1 l) last)
+pub rest_sound : (l : List Position) (last : Option ℕ) → Sound (view l last) → Sound (view (drop 1 l) last)
 rest_sound [] last g = g
 rest_sound (p ∷ ps) last g = record { few = let h : suc (length ps) ≤ 16 = g.few in omega arith; fair = g.fair.1; spaced = g.spaced.1; marked = g.marked }
 
-pub give_sound : (c : Choice) (f : Freed) (ps : List Position) (last : Clock) → Sound (view ps last) → FairChoice c → Sound (settle c f ps last).next
-give_sound Neither f ps last g k = g
-give_sound (Chosen h b) f ps last g fair =
-    cond_both (λ (y : ReleaseStep). Sound y.next) (is_after last (snapped last h.figures.offset)) _ _
-    (record { few = g.few; fair = g.fair; spaced = g.spaced; marked = let k : snapped last h.figures.offset ≤ h.figures.offset + 383 = snapped_le last h.figures.offset in omega arith })
+pub give_sound : (c : Option Chosen) (f : Freed) (ps : List Position) (last : Option ℕ) → Sound (view ps last) → FairChoice c → Sound (settle c f ps last).next
+give_sound None f ps last g k = g
+give_sound (Some c) f ps last g fair =
+    cond_both (λ (y : ReleaseStep). Sound y.next) (is_after last (snapped last c.frame.figures.offset)) _ _
+    (record { few = g.few; fair = g.fair; spaced = g.spaced; marked = let k : snapped last c.frame.figures.offset ≤ c.frame.figures.offset + 383 = snapped_le last c.frame.figures.offset in omega arith })
     g
 
-pub fair_choose : (k : ℕ) (a b : Place) → FairPlace k a → FairPlace k b → FairChoice (choose_of a b)
-fair_choose k Empty Empty f g = tt
-fair_choose k Empty (Holds h) f g = g.0
-fair_choose k (Holds h) Empty f g = f.0
-fair_choose k (Holds h) (Holds i) f g = by h.check i.check
+pub fair_choose : (k : ℕ) (a b : Option Held) → FairPlace k a → FairPlace k b → FairChoice (choose_of a b)
+fair_choose k None None f g = tt
+fair_choose k None (Some h) f g = g.0
+fair_choose k (Some h) None f g = f.0
+fair_choose k (Some h) (Some i) f g = by h.check i.check
   where
-    by : (x y : Bool) → FairChoice (cond (x || not y) (Chosen h false) (Chosen i true))
+    by : (x y : Bool) → FairChoice (cond (x || not y) (chosen h false) (chosen i true))
     by true y = f.0
     by false true = g.0
     by false false = f.0

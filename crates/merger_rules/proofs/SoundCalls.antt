@@ -1,4 +1,5 @@
 -- Every call leaves a sound state: a law of the definitions. Assumes nothing.
+use Rattle.std.proofs.Common.{Option}
 use mathlib.Core.Path.{◌≡◌, refl, sym, subst}
 use mathlib.Core.Bool.{Bool, true, false, cond}
 use mathlib.Core.List.{List, [], ◌∷◌}
@@ -9,7 +10,6 @@ use lib.Dec.{ltb, leb}
 use lib.ListN.{length}
 use borrow.Author.Tests.{ltb-true, ltb-false, leb-true}
 use Rattle.bits.proofs.Ands.{both_true}
-use Rattle.merger_rules.specs.declared.Clock.{Clock}
 use Rattle.merger_rules.specs.declared.Held.{Held}
 use Rattle.merger_rules.specs.declared.Position.{Position}
 use Rattle.merger_rules.specs.declared.Released.TheVariants.{NothingReady}
@@ -52,7 +52,7 @@ push_sound s h v g =
     (λ p i. let n : Nowhere h.figures.offset v.pending = nowhere h.figures.offset v.pending i in
     subst (λ (i : ℕ). Sound (open_of s h v i).next) (sym (in_order h.figures.offset v.pending n)) (open_sound s h v g n p.offset))
 
-pub release_sound : (s₀ s₁ : Clock) (flush : Bool) (l : List Position) (last : Clock) → Sound (view l last) → Sound (release_from s₀ s₁ flush l last).next
+pub release_sound : (s₀ s₁ : Option ℕ) (flush : Bool) (l : List Position) (last : Option ℕ) → Sound (view l last) → Sound (release_from s₀ s₁ flush l last).next
 release_sound s₀ s₁ flush [] last g = g
 release_sound s₀ s₁ flush (p ∷ ps) last g = by (is_ready s₀ s₁ flush p)
   where

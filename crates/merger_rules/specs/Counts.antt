@@ -1,28 +1,25 @@
 -- How many frames of a number x are pending, were kept by a script, were handed on, were given back. Assumes nothing.
-use Rattle.std.specs.Prelude.{cond, List, [], ◌∷◌, ℕ, ◌+◌, eqb}
+use Rattle.std.specs.Prelude.{cond, List, [], ◌∷◌, ℕ, ◌+◌, eqb, Option, Some, None, Result, Ok, Err}
 use Rattle.merger_rules.specs.declared.Held.{Held}
-use Rattle.merger_rules.specs.declared.Free.{Free}
-use Rattle.merger_rules.specs.declared.Free.TheVariants.{Nothing, Number}
 use Rattle.merger_rules.specs.declared.Freed.{Freed}
-use Rattle.merger_rules.specs.declared.Place.{Place}
-use Rattle.merger_rules.specs.declared.Place.TheVariants.{Empty, Holds}
 use Rattle.merger_rules.specs.declared.Position.{Position}
 use Rattle.merger_rules.specs.declared.Keeping.{Keeping}
-use Rattle.merger_rules.specs.declared.Keeping.TheVariants.{Kept, Double, Late, Refused}
+use Rattle.merger_rules.specs.declared.Keeping.TheVariants.{Kept, Double, Late}
 use Rattle.merger_rules.specs.declared.Release.{Release}
 use Rattle.merger_rules.specs.Merging.{View, push_of, release_of}
 use Rattle.merger_rules.specs.Scripts.{Call, after, push, release}
+use Rattle.bits.specs.declared.Refusal.{Refusal}
 
 abbrev pub one : ℕ → ℕ → ℕ
 one x n = cond (eqb n x) 1 0
 
-abbrev pub in_place : ℕ → Place → ℕ
-in_place x Empty = 0
-in_place x (Holds h) = one x h.number
+abbrev pub in_place : ℕ → Option Held → ℕ
+in_place x None = 0
+in_place x (Some h) = one x h.number
 
-abbrev pub in_free : ℕ → Free → ℕ
-in_free x Nothing = 0
-in_free x (Number n) = one x n
+abbrev pub in_free : ℕ → Option ℕ → ℕ
+in_free x None = 0
+in_free x (Some n) = one x n
 
 unfoldable pub pending_of : ℕ → List Position → ℕ
 pending_of x [] = 0
@@ -32,11 +29,11 @@ unfoldable pub released_of : ℕ → List Release → ℕ
 released_of x [] = 0
 released_of x (r ∷ rs) = one x r.number + released_of x rs
 
-abbrev pub kept_by : ℕ → Held → Keeping → ℕ
-kept_by x h Kept = one x h.number
-kept_by x h Double = 0
-kept_by x h Late = 0
-kept_by x h (Refused r) = 0
+abbrev pub kept_by : ℕ → Held → Result Keeping Refusal → ℕ
+kept_by x h (Ok Kept) = one x h.number
+kept_by x h (Ok Double) = 0
+kept_by x h (Ok Late) = 0
+kept_by x h (Err r) = 0
 
 abbrev pub kept_at : ℕ → Call → View → ℕ
 kept_at x (push s h) v = kept_by x h (push_of s h v).answer

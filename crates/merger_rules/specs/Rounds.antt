@@ -1,11 +1,9 @@
 -- A caller that pushes the frames of both streams and then releases all that is ready, round after round. Assumes nothing.
-use Rattle.std.specs.Prelude.{◌≡◌, true, false, List, [], ◌∷◌, ℕ, zero, suc, ◌+◌, ◌≤◌, length}
+use Rattle.std.specs.Prelude.{◌≡◌, true, false, List, [], ◌∷◌, ℕ, zero, suc, ◌+◌, ◌≤◌, length, Some, Err}
 use Rattle.bits.specs.Sizes.{frame_bits}
 use Rattle.bits.specs.declared.Refusal.TheVariants.{Positions}
 use Rattle.sync_rules.specs.Moves.{no_moves}
-use Rattle.merger_rules.specs.declared.Clock.TheVariants.{At}
 use Rattle.merger_rules.specs.declared.Held.{Held}
-use Rattle.merger_rules.specs.declared.Keeping.TheVariants.{Refused}
 use Rattle.merger_rules.specs.Merging.{View, held_of, push_of}
 use Rattle.merger_rules.specs.Source.{times}
 
@@ -26,12 +24,12 @@ push_all (f ∷ fs) v = push_all fs (push_of f.stream f.held v).next
 
 -- 16 calls release all that is ready
 abbrev pub after_round : Round → View → View
-after_round r v = (times 16 (At r.primary) (At r.alternate) false (push_all r.frames v)).next
+after_round r v = (times 16 (Some r.primary) (Some r.alternate) false (push_all r.frames v)).next
 
 -- no push is refused for want of a position
 abbrev pub RoomFor : List Arrival → View → Type 0
 RoomFor [] v = Unit {0}
-RoomFor (f ∷ fs) v = ((push_of f.stream f.held v).answer ≡ Refused Positions → ⊥) × RoomFor fs (push_of f.stream f.held v).next
+RoomFor (f ∷ fs) v = ((push_of f.stream f.held v).answer ≡ Err Positions → ⊥) × RoomFor fs (push_of f.stream f.held v).next
 
 abbrev pub RoomIn : List Round → View → Type 0
 RoomIn [] v = Unit {0}

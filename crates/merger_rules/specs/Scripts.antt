@@ -1,7 +1,5 @@
 -- Whole scripts of calls: the frames that they hand on, and the state that they leave. Assumes nothing.
-use Rattle.std.specs.Prelude.{Bool, List, [], ◌∷◌, ◌++◌, ℕ}
-use Rattle.merger_rules.specs.declared.Clock.{Clock}
-use Rattle.merger_rules.specs.declared.Clock.TheVariants.{Absent}
+use Rattle.std.specs.Prelude.{Bool, List, [], ◌∷◌, ◌++◌, ℕ, Option, None}
 use Rattle.merger_rules.specs.declared.Held.{Held}
 use Rattle.merger_rules.specs.declared.Release.{Release}
 use Rattle.merger_rules.specs.declared.Released.{Released}
@@ -10,11 +8,11 @@ use Rattle.merger_rules.specs.Merging.{View, view, push_of, release_of}
 
 pub data Call : Type 0 where
   push : ℕ → Held → Call
-  release : Clock → Clock → Bool → Call
+  release : Option ℕ → Option ℕ → Bool → Call
 
 -- the state before any call
 abbrev pub started : View
-started = view [] Absent
+started = view [] None
 
 -- what a call leaves
 abbrev pub after : Call → View → View

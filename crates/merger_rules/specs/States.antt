@@ -1,15 +1,11 @@
 -- What holds of each state that a start and further calls have reached. Assumes nothing.
-use Rattle.std.specs.Prelude.{◌≡◌, true, cond, ◌||◌, List, [], ◌∷◌, ℕ, suc, ◌+◌, ◌<◌, ◌≤◌, ltb, length, get_or}
+use Rattle.std.specs.Prelude.{◌≡◌, true, cond, ◌||◌, List, [], ◌∷◌, ℕ, suc, ◌+◌, ◌<◌, ◌≤◌, ltb, length, get_or, Option, Some, None}
 use Rattle.bits.specs.Sizes.{frame_bits, most_offset}
 use Rattle.bits.specs.Alls.{All}
-use Rattle.merger_rules.specs.declared.Clock.{Clock}
-use Rattle.merger_rules.specs.declared.Clock.TheVariants.{Absent, At}
-use Rattle.merger_rules.specs.declared.Place.{Place}
-use Rattle.merger_rules.specs.declared.Place.TheVariants.{Empty, Holds}
 use Rattle.merger_rules.specs.declared.Position.{Position}
-use Rattle.merger_rules.specs.declared.Choice.{Choice}
-use Rattle.merger_rules.specs.declared.Choice.TheVariants.{Neither, Chosen}
+use Rattle.merger_rules.specs.declared.Chosen.{Chosen}
 use Rattle.merger_rules.specs.Merging.{View, is_held, no_position}
+use Rattle.merger_rules.specs.declared.Held.{Held}
 
 -- how many positions, from the first, lie more than 191 below the offset. The code's one search: it serves for the position that a frame belongs to
 -- (`home_of`) and for the place of a new one (`order_of`)
@@ -23,13 +19,13 @@ pub record IsNear (o k : ℕ) : Type 0 where
   pub high : k ≤ o + 191
 
 -- a held frame belongs to its position's key
-abbrev pub FairPlace : ℕ → Place → Type 0
-FairPlace k Empty = Unit {0}
-FairPlace k (Holds h) = (h.figures.offset ≤ most_offset) × IsNear h.figures.offset k
+abbrev pub FairPlace : ℕ → Option Held → Type 0
+FairPlace k None = Unit {0}
+FairPlace k (Some h) = (h.figures.offset ≤ most_offset) × IsNear h.figures.offset k
 
-abbrev pub FairChoice : Choice → Type 0
-FairChoice Neither = Unit {0}
-FairChoice (Chosen h b) = h.figures.offset ≤ most_offset
+abbrev pub FairChoice : Option Chosen → Type 0
+FairChoice None = Unit {0}
+FairChoice (Some c) = c.frame.figures.offset ≤ most_offset
 
 pub record Fair (p : Position) : Type 0 where
   pub key : p.key ≤ most_offset
@@ -54,9 +50,9 @@ abbrev pub Spaced : List Position → Type 0
 Spaced [] = Unit {0}
 Spaced (p ∷ ps) = Under p.key ps × Spaced ps
 
-abbrev pub Marked : Clock → Type 0
-Marked Absent = Unit {0}
-Marked (At l) = l < most_offset + frame_bits
+abbrev pub Marked : Option ℕ → Type 0
+Marked None = Unit {0}
+Marked (Some l) = l < most_offset + frame_bits
 
 pub record Sound (v : View) : Type 0 where
   pub few : length v.pending ≤ 16

@@ -11,13 +11,6 @@ ghost use Rattle.merger_rules.specs.Statements.{Reached, Rises, Snapping, OnlyRe
 use bits::Refusal;
 use sync_rules::Head;
 
-// Gives an offset, or none: what was released last, or how far a stream is settled.
-#[derive(Clone, Copy)]
-pub enum Clock {
-    Absent,
-    At(u64),
-}
-
 // Keeps what the merger needs of a frame.
 #[derive(Clone, Copy)]
 pub struct Held {
@@ -26,28 +19,20 @@ pub struct Held {
     pub check: bool,
 }
 
-// Says what a stream's place in a position holds: a frame or none.
-#[derive(Clone, Copy)]
-pub enum Place {
-    Empty,
-    Holds(Held),
-}
-
 // Holds the frames of the two streams that cover one transmission, each within 191 bits of the key.
 #[derive(Clone, Copy)]
 pub struct Position {
     pub key: u64,
-    pub primary: Place,
-    pub alternate: Place,
+    pub primary: Option<Held>,
+    pub alternate: Option<Held>,
 }
 
-// Says what a push answers. Its refusals are 7 (stream), 8 (offset) and 9 (positions).
-#[derive(Clone, Copy)]
+// Says what became of a frame that was not refused. A push refuses by 7 (stream), 8 (offset) and 9 (positions).
+#[derive(Clone, Copy, Debug, PartialEq, Eq)]
 pub enum Keeping {
     Kept,
     Double,
     Late,
-    Refused(Refusal),
 }
 
 // Says of a frame handed on its figures with the offset on the grid, its number, and a yes where it is the alternate's.
@@ -66,25 +51,19 @@ pub enum Released {
     NothingReady,
 }
 
-// Says what a place gave back: the number of the frame that it held, which the caller may use again.
-#[derive(Clone, Copy)]
-pub enum Free {
-    Nothing,
-    Number(u64),
-}
-
 // Names the numbers that are free again: those of the position that was released or passed over, of both streams.
+// kept: `IsSlot` of its numbers is a clause and no ghost field, by what may not change: `freed` gives, and `how_many` counts, whatever numbers a caller chose.
 #[derive(Clone, Copy)]
 pub struct Freed {
-    pub primary: Free,
-    pub alternate: Free,
+    pub primary: Option<u64>,
+    pub alternate: Option<u64>,
 }
 
-// Says which of the two places of a position is chosen.
+// Holds the frame that is chosen of a position, and a yes where it is the alternate's.
 #[derive(Clone, Copy)]
-pub enum Choice {
-    Neither,
-    Chosen(Held, bool),
+pub struct Chosen {
+    pub frame: Held,
+    pub alternate: bool,
 }
 
 // Every state that a start and further calls have reached is sound.

@@ -1,47 +1,39 @@
 -- The code's one search: how many of the first n positions lie below a frame. Assumes nothing.
-use mathlib.Core.Path.{◌≡◌, refl, sym, ap, subst, ◌∙◌}
-use mathlib.Core.Bool.{Bool, cond}
-use mathlib.Core.List.{List, [], ◌∷◌}
-use Prim.Native.Nat.{ℕ, zero, suc, ◌+◌, ◌<◌, ◌≤◌, suc-le-suc}
-use native.Mathlib.Nat.{not-suc-le-zero, le_of_suc-le-suc, zero-lt-suc}
-use native.Mathlib.Omega.{arith}
-use lib.ListN.{length, take}
-use lib.Seq.{length-take-le, get_or-take}
-use borrow.Author.Tests.{lt-ltb, le-ltb}
+use Rattle.std.proofs.Common.{◌≡◌, ℕ, suc, ◌+◌, ◌-◌, ◌≤◌, List, Option, Some, None, Bool, not, cond, nat_le, nat_lt, ltb, length, take, refl, sym, ◌∙◌, arith}
+use Rattle.std.specs.Prelude.{position}
+use Rattle.std.specs.List.{position_or_len}
+use Rattle.std.specs.Option.{unwrap_or}
+use Rattle.std.proofs.lemmas.Bool.Decides.{nat_tests}
+use Rattle.std.proofs.lemmas.List.Recursion.{is_position_or_len}
+use Rattle.bits.proofs.Conds.{cond_cases}
+use Rattle.std.proofs.lemmas.List.Sums.{prefix_len-le-length}
+use borrow.Author.Tests.{ltb-false}
+use lib.Seq.{length-take-le}
 use Rattle.merger_rules.specs.declared.Position.{Position}
-use Rattle.merger_rules.specs.Merging.{no_position}
-use Rattle.merger_rules.specs.States.{below_of, key_at}
+use Rattle.merger_rules.specs.States.{below_of}
 
--- every position before i lies below the frame
-abbrev pub AllBelow : ℕ → List Position → ℕ → Type 0
-AllBelow o l i = (j : ℕ) → j < i → key_at l j + 191 < o
+-- the key reaches up to a lowest one
+abbrev pub reaches : ℕ → Position → Bool
+reaches lowest p = nat_le lowest p.key
 
-found : (o : ℕ) (l : List Position) (i : ℕ) → i < length l → AllBelow o l i → o ≤ key_at l i + 191 → below_of o l ≡ i
+step : (o k b : ℕ) → cond (ltb (k + 191) o) (suc b) 0 ≡ cond (nat_le (o - 191) k) 0 (1 + b)
+step o k b = grind (arith, nat_tests)
+
+-- the positions that lie below are those before the first that does not
+below_first : (o : ℕ) (l : List Position) → below_of o l ≡ position_or_len (reaches (o - 191)) l
 unfolding below_of
-found o [] i h f g = absurd (not-suc-le-zero h)
-found o (p ∷ ps) zero h f g = ap (λ (b : Bool). cond b (suc (below_of o ps)) 0) (le-ltb _ o g)
-found o (p ∷ ps) (suc i) h f g =
-    ap (λ (b : Bool). cond b (suc (below_of o ps)) 0) (lt-ltb _ o (f 0 (zero-lt-suc i)))
-    ∙ ap suc (found o ps i (le_of_suc-le-suc h) (λ j q. f (suc j) (suc-le-suc q)) g)
+below_first o l = is_position_or_len (below_of o) (reaches (o - 191)) refl (λ p ps. step o p.key (below_of o ps)) l
 
-none : (o : ℕ) (l : List Position) → AllBelow o l (length l) → below_of o l ≡ length l
-unfolding below_of
-none o [] f = refl
-none o (p ∷ ps) f =
-    ap (λ (b : Bool). cond b (suc (below_of o ps)) 0) (lt-ltb _ o (f 0 (zero-lt-suc (length ps))))
-    ∙ ap suc (none o ps (λ j q. f (suc j) (suc-le-suc q)))
+-- what is found at i of m, or n where nothing is found
+placed : (i m n : ℕ) → m ≡ n → i ≤ n → unwrap_or (cond (nat_lt i m) (Some i) None) n ≡ i
+placed i m n e h = cond_cases Q (nat_lt i m) (Some i) None (λ _. refl) (λ f. let g : m ≤ i = ltb-false i m f in omega arith)
+  where
+    Q : Option ℕ → Type 0
+    Q o = unwrap_or o n ≡ i
 
-pub key_take : (n : ℕ) (l : List Position) (i : ℕ) → i < n → key_at (take n l) i ≡ key_at l i
-key_take n l i h = ap (λ (p : Position). p.key) (get_or-take n l i no_position h)
-
-module _ (o : ℕ) (l : List Position) (n : ℕ) (fits : n ≤ length l) where
-  pub below_found : (i : ℕ) → i < n → AllBelow o l i → o ≤ key_at l i + 191 → i ≡ below_of o (take n l)
-  below_found i h f g =
-      let ln : length (take n l) ≡ n = length-take-le n l fits in
-      sym (found o (take n l) i (omega arith) (λ j q. let r : j < n = omega arith in subst (λ (k : ℕ). k + 191 < o) (sym (key_take n l j r)) (f j q)) (subst (λ (k : ℕ). o ≤ k + 191) (sym (key_take n l i h)) g))
-
-  pub below_end : (i : ℕ) → i ≤ n → n ≤ i → AllBelow o l i → i ≡ below_of o (take n l)
-  below_end i h g f =
-      let ln : length (take n l) ≡ n = length-take-le n l fits in
-      let e : i ≡ length (take n l) = omega arith in
-      e ∙ sym (none o (take n l) (λ j q. let r : j < n = omega arith in subst (λ (k : ℕ). k + 191 < o) (sym (key_take n l j r)) (f j (omega arith))))
+pub below_found : (o n : ℕ) (l : List Position) → n ≤ length l → (unwrap_or (position (reaches (o - 191)) (take n l)) n ≡ below_of o (take n l)) × (below_of o (take n l) ≤ n)
+below_found o n l h =
+    let k : length (take n l) ≡ n = length-take-le n l h in
+    let f : below_of o (take n l) ≡ position_or_len (reaches (o - 191)) (take n l) = below_first o (take n l) in
+    let g : position_or_len (reaches (o - 191)) (take n l) ≤ length (take n l) = prefix_len-le-length (λ (p : Position). not (reaches (o - 191) p)) (take n l) in
+    (placed _ _ n k (omega arith) ∙ sym f, omega arith)

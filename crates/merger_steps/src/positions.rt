@@ -3,24 +3,17 @@ ghost use Rattle.std.specs.Prelude.{◌≡◌, ◌≤◌};
 ghost use Rattle.bits.specs.Sizes.{most_offset};
 ghost use Rattle.merger_rules.specs.Merging.{taken, filled, alone, passed, is_ready, choice_of, free_of, freed_of};
 
-use merger_rules::{Choice, Clock, Free, Freed, Held, Place, Position};
+use merger_rules::{Chosen, Freed, Held, Position};
 
+// kept: the stream is a number here, by what may not change: `taken`, `filled` and `alone` say what every number gives, and these calls answer for each.
 // Tells whether the stream's place holds a frame.
 pub fn is_taken(p: Position, stream: usize) -> bool
     ensures { result ≡ taken stream p }
 {
-    let primary = p.primary;
-    let alternate = p.alternate;
     if stream == 0 {
-        match primary {
-            Place::Empty => false,
-            Place::Holds(_) => true,
-        }
+        p.primary.is_some()
     } else {
-        match alternate {
-            Place::Empty => false,
-            Place::Holds(_) => true,
-        }
+        p.alternate.is_some()
     }
 }
 
@@ -28,20 +21,15 @@ pub fn is_taken(p: Position, stream: usize) -> bool
 pub fn with_frame(p: Position, stream: usize, h: Held) -> Position
     ensures { result ≡ filled stream h p }
 {
-    let primary = p.primary;
-    let alternate = p.alternate;
-    let key = p.key;
     if stream == 0 {
         Position {
-            key: key,
-            primary: Place::Holds(h),
-            alternate: alternate,
+            primary: Some(h),
+            ..p
         }
     } else {
         Position {
-            key: key,
-            primary: primary,
-            alternate: Place::Holds(h),
+            alternate: Some(h),
+            ..p
         }
     }
 }
@@ -50,93 +38,63 @@ pub fn with_frame(p: Position, stream: usize, h: Held) -> Position
 pub fn opened(stream: usize, h: Held) -> Position
     ensures { result ≡ alone stream h }
 {
-    let key = h.figures.offset;
-    with_frame(
-        Position {
-            key: key,
-            primary: Place::Empty,
-            alternate: Place::Empty,
-        },
-        stream,
-        h,
-    )
+    let empty = Position {
+        key: h.figures.offset,
+        primary: None,
+        alternate: None,
+    };
+    with_frame(empty, stream, h)
 }
 
 // Tells whether a stream has delivered a position or moved past it.
-fn is_passed(place: Place, settled: Clock, key: u64) -> bool
+fn is_passed(place: Option<Held>, settled: Option<u64>, key: u64) -> bool
     requires { key ≤ most_offset }
     ensures { result ≡ passed settled key place }
 {
-    match place {
-        Place::Holds(_) => true,
-        Place::Empty => match settled {
-            Clock::Absent => true,
-            Clock::At(s) => key + 191 < s,
-        },
-    }
+    place.is_some() || settled.is_none_or(|s| key + 191 < s)
 }
 
 // Tells whether both streams have, or it is a flush.
-pub fn ready(p: Position, primary: Clock, alternate: Clock, flush: bool) -> bool
+pub fn ready(p: Position, primary: Option<u64>, alternate: Option<u64>, flush: bool) -> bool
     requires { p.key ≤ most_offset }
     ensures { result ≡ is_ready primary alternate flush p }
 {
-    if flush {
-        return true;
-    }
-    let first = p.primary;
-    let second = p.alternate;
-    let key = p.key;
-    if is_passed(first, primary, key) {
-        return is_passed(second, alternate, key);
-    }
-    false
+    flush || (is_passed(p.primary, primary, p.key) && is_passed(p.alternate, alternate, p.key))
 }
 
 // Chooses the primary's frame, unless only the alternate's passes the check.
-pub fn choose(p: Position) -> Choice
+pub fn choose(p: Position) -> Option<Chosen>
     ensures { result ≡ choice_of p }
 {
-    let primary = p.primary;
-    let alternate = p.alternate;
-    match primary {
-        Place::Holds(f) => match alternate {
-            Place::Holds(g) => {
-                if f.check {
-                    return Choice::Chosen(f, false);
-                }
-                if g.check {
-                    return Choice::Chosen(g, true);
-                }
-                Choice::Chosen(f, false)
-            }
-            Place::Empty => Choice::Chosen(f, false),
-        },
-        Place::Empty => match alternate {
-            Place::Holds(g) => Choice::Chosen(g, true),
-            Place::Empty => Choice::Neither,
-        },
+    match (p.primary, p.alternate) {
+        (Some(first), Some(second)) if second.check && !first.check => Some(Chosen {
+            frame: second,
+            alternate: true,
+        }),
+        (Some(frame), _) => Some(Chosen {
+            frame,
+            alternate: false,
+        }),
+        (None, other) => other.map(|frame| Chosen {
+            frame,
+            alternate: true,
+        }),
     }
 }
 
 // Gives the number that a place gives back.
-fn free(place: Place) -> Free
+fn free(place: Option<Held>) -> Option<u64>
     ensures { result ≡ free_of place }
 {
-    match place {
-        Place::Empty => Free::Nothing,
-        Place::Holds(h) => Free::Number(h.number),
-    }
+    place.map(|h| h.number)
 }
 
 // Gives the numbers that a position gives back when it is taken out.
 pub fn freed(p: Position) -> Freed
     ensures { result ≡ freed_of p }
 {
-    let primary = p.primary;
-    let alternate = p.alternate;
     Freed {
-        primary: free(primary),
-        alternate: free(alternate),
+        primary: free(p.primary),
+        alternate: free(p.alternate),
     }
 }

@@ -1,4 +1,5 @@
 -- Frames on one grid: nothing moves, nothing is passed over, and what comes out is what was taken in, in order. Assumes nothing.
+use Rattle.std.proofs.Common.{Option, Some, None, Ok}
 use mathlib.Core.Path.{◌≡◌, refl, sym, ap, subst, ◌∙◌}
 use mathlib.Core.Bool.{Bool, true, false, cond, not, ◌||◌, or_assoc, or-false}
 use mathlib.Core.List.{List, [], ◌∷◌, ◌++◌}
@@ -10,19 +11,14 @@ use lib.ListN.{length, get_or, set}
 use borrow.Author.Tests.{lt-ltb, ltb-true, ltb-false}
 use Rattle.bits.specs.Alls.{All}
 use Rattle.bits.proofs.Alls.{all_at, all_set}
-use Rattle.merger_rules.specs.declared.Clock.{Clock}
-use Rattle.merger_rules.specs.declared.Clock.TheVariants.{Absent, At}
 use Rattle.merger_rules.specs.declared.Held.{Held}
 use Rattle.merger_rules.specs.declared.Freed.{Freed}
-use Rattle.merger_rules.specs.declared.Place.{Place}
-use Rattle.merger_rules.specs.declared.Place.TheVariants.{Empty, Holds}
 use Rattle.merger_rules.specs.declared.Position.{Position}
-use Rattle.merger_rules.specs.declared.Choice.{Choice}
-use Rattle.merger_rules.specs.declared.Choice.TheVariants.{Chosen}
+use Rattle.merger_rules.specs.declared.Chosen.{Chosen}
 use Rattle.merger_rules.specs.declared.Keeping.TheVariants.{Kept, Late}
 use Rattle.merger_rules.specs.declared.Release.{Release}
 use Rattle.merger_rules.specs.declared.Released.TheVariants.{Frame, PassedOver, NothingReady}
-use Rattle.merger_rules.specs.Merging.{View, view, is_late, home_of, order_of, insert_at, is_held, filled, no_position, alone, PushStep, push_step, join_of, push_of, is_ready, choose_of, choice_of, snapped, is_after, freed_of, none_freed, ReleaseStep, release_step, released_as, settle, release_from, release_of}
+use Rattle.merger_rules.specs.Merging.{chosen, View, view, is_late, home_of, order_of, insert_at, is_held, filled, no_position, alone, PushStep, push_step, join_of, push_of, is_ready, choose_of, choice_of, snapped, is_after, freed_of, none_freed, ReleaseStep, release_step, released_as, settle, release_from, release_of}
 use Rattle.merger_rules.specs.States.{IsNear, key_at, Under, Sound}
 use Rattle.merger_rules.specs.Scripts.{Call, started, given, releases, left, push, release}
 use Rattle.merger_rules.specs.Offsets.{Later, Past, Rising}
@@ -38,21 +34,21 @@ use Rattle.merger_stream_rules.proofs.Rows.{same_rising}
 
 -- ── a state on the grid ──
 
-abbrev pub ExactPlace : ℕ → Place → Type 0
-ExactPlace k Empty = Unit {0}
-ExactPlace k (Holds h) = h.figures.offset ≡ k
+abbrev pub ExactPlace : ℕ → Option Held → Type 0
+ExactPlace k None = Unit {0}
+ExactPlace k (Some h) = h.figures.offset ≡ k
 
 pub record Exact (g : ℕ) (p : Position) : Type 0 where
   pub on : p.key % 384 ≡ g
   pub first : ExactPlace p.key p.primary
   pub second : ExactPlace p.key p.alternate
 
-abbrev pub GridClock : ℕ → Clock → Type 0
-GridClock g Absent = Unit {0}
-GridClock g (At l) = l % 384 ≡ g
+abbrev pub GridClock : ℕ → Option ℕ → Type 0
+GridClock g None = Unit {0}
+GridClock g (Some l) = l % 384 ≡ g
 
 -- the first key lies after what was released last
-abbrev pub Ahead : Clock → List Position → Type 0
+abbrev pub Ahead : Option ℕ → List Position → Type 0
 Ahead last [] = Unit {0}
 Ahead last (p ∷ ps) = Later last p.key
 
@@ -74,12 +70,12 @@ keys_set [] i q e = refl
 keys_set (p ∷ ps) zero q e = ap (λ (k : ℕ). k ∷ keys_of ps) e
 keys_set (p ∷ ps) (suc i) q e = ap (λ (l : List ℕ). p.key ∷ l) (keys_set ps i q e)
 
-ahead_set : (last : Clock) (l : List Position) (i : ℕ) (q : Position) → q.key ≡ key_at l i → Ahead last l → Ahead last (set l i q)
+ahead_set : (last : Option ℕ) (l : List Position) (i : ℕ) (q : Position) → q.key ≡ key_at l i → Ahead last l → Ahead last (set l i q)
 ahead_set last [] i q e a = tt
 ahead_set last (p ∷ ps) zero q e a = subst (λ (k : ℕ). Later last k) (sym e) a
 ahead_set last (p ∷ ps) (suc i) q e a = a
 
-ahead_insert : (last : Clock) (n : ℕ) (l : List Position) (q : Position) → Ahead last l → Later last q.key → Ahead last (insert_at n q l)
+ahead_insert : (last : Option ℕ) (n : ℕ) (l : List Position) (q : Position) → Ahead last l → Later last q.key → Ahead last (insert_at n q l)
 ahead_insert last zero l q a h = h
 ahead_insert last (suc n) [] q a h = h
 ahead_insert last (suc n) (p ∷ ps) q a h = a
@@ -88,13 +84,13 @@ ahead_insert last (suc n) (p ∷ ps) q a h = a
 pub near_equal : (g o k : ℕ) → o % 384 ≡ g → k % 384 ≡ g → IsNear o k → o ≡ k
 near_equal g o k a b n = let l : o ≤ k + 191 = n.low in let h : k ≤ o + 191 = n.high in omega arith
 
-not_late : (g : ℕ) (last : Clock) (o : ℕ) → is_late last o ≡ false → Later last o
-not_late g Absent o e = tt
-not_late g (At l) o e = omega (arith, ltb-false (o + 191) _ e)
+not_late : (g : ℕ) (last : Option ℕ) (o : ℕ) → is_late last o ≡ false → Later last o
+not_late g None o e = tt
+not_late g (Some l) o e = omega (arith, ltb-false (o + 191) _ e)
 
-is_past : (g : ℕ) (last : Clock) (o : ℕ) → GridClock g last → o % 384 ≡ g → is_late last o ≡ true → Past last o
-is_past g Absent o c n e = contrary cc
-is_past g (At l) o c n e = let c' : l % 384 ≡ g = c in omega (arith, ltb-true (o + 191) _ e)
+is_past : (g : ℕ) (last : Option ℕ) (o : ℕ) → GridClock g last → o % 384 ≡ g → is_late last o ≡ true → Past last o
+is_past g None o c n e = contrary cc
+is_past g (Some l) o c n e = let c' : l % 384 ≡ g = c in omega (arith, ltb-true (o + 191) _ e)
 
 -- ── a push on the grid ──
 
@@ -129,7 +125,7 @@ has_there x (p ∷ ps) (suc i) h = ap (λ (t : Bool). eqb p.key x || t) (has_the
 pub record OnStep (g : ℕ) (h : Held) (v : View) (y : PushStep) : Type 0 where
   pub gridded : Gridded g y.next
   pub keys : (x : ℕ) → has x (keys_of y.next.pending) ≡ (has x (took_offset h.figures.offset y.answer) || has x (keys_of v.pending))
-  pub late : y.answer ≡ Late → Past v.last h.figures.offset
+  pub late : y.answer ≡ Ok Late → Past v.last h.figures.offset
 
 one_more : (x o : ℕ) (b : Bool) → (eqb o x || b) ≡ (has x (o ∷ []) || b)
 unfolding has
@@ -174,7 +170,7 @@ push_on_grid g s h v w r n =
           late = λ e. contrary cc;
         })
 
-    opened : (at : ℕ) → Later v.last h.figures.offset → OnStep g h v (push_step Kept (view (insert_at at (alone s h) v.pending) v.last))
+    opened : (at : ℕ) → Later v.last h.figures.offset → OnStep g h v (push_step (Ok Kept) (view (insert_at at (alone s h) v.pending) v.last))
     opened at later =
         record {
           gridded = record {
@@ -192,11 +188,11 @@ push_on_grid g s h v w r n =
 -- ── a release on the grid ──
 
 -- a frame on the last release's grid stays where it is
-snap_exact : (g : ℕ) (last : Clock) (o : ℕ) → GridClock g last → o % 384 ≡ g → Later last o → snapped last o ≡ o
-snap_exact g Absent o c n h = refl
-snap_exact g (At l) o c n h = by (ltb (o - l) 6144) refl
+snap_exact : (g : ℕ) (last : Option ℕ) (o : ℕ) → GridClock g last → o % 384 ≡ g → Later last o → snapped last o ≡ o
+snap_exact g None o c n h = refl
+snap_exact g (Some l) o c n h = by (ltb (o - l) 6144) refl
   where
-    by : (b : Bool) → ltb (o - l) 6144 ≡ b → snapped (At l) o ≡ o
+    by : (b : Bool) → ltb (o - l) 6144 ≡ b → snapped (Some l) o ≡ o
     by true e =
         let c' : l % 384 ≡ g = c in
         let h' : l < o = h in
@@ -205,21 +201,21 @@ snap_exact g (At l) o c n h = by (ltb (o - l) 6144) refl
         snap_grid l o h (ltb-true _ _ e) k ∙ f
     by false e = snap_far l o h (ltb-false _ _ e)
 
-is_after_lem : (last : Clock) (o : ℕ) → Later last o → is_after last o ≡ true
-is_after_lem Absent o h = refl
-is_after_lem (At l) o h = let k : l < o = h in lt-ltb l _ (omega arith)
+is_after_lem : (last : Option ℕ) (o : ℕ) → Later last o → is_after last o ≡ true
+is_after_lem None o h = refl
+is_after_lem (Some l) o h = let k : l < o = h in lt-ltb l _ (omega arith)
 
 -- a position on the grid that holds a frame gives one, of its own offset
-pub data Gives (k : ℕ) : Choice → Type 0 where
-  gives : (h : Held) (b : Bool) → h.figures.offset ≡ k → Gives k (Chosen h b)
+pub data Gives (k : ℕ) : Option Chosen → Type 0 where
+  gives : (h : Held) (b : Bool) → h.figures.offset ≡ k → Gives k (chosen h b)
 
-pub exact_choice : (k : ℕ) (a b : Place) → ExactPlace k a → ExactPlace k b → is_held a || is_held b ≡ true → Gives k (choose_of a b)
-exact_choice k Empty Empty f g e = contrary cc
-exact_choice k Empty (Holds h) f g e = gives h _ g
-exact_choice k (Holds h) Empty f g e = gives h false f
-exact_choice k (Holds h) (Holds i) f g e = by (h.check || not i.check)
+pub exact_choice : (k : ℕ) (a b : Option Held) → ExactPlace k a → ExactPlace k b → is_held a || is_held b ≡ true → Gives k (choose_of a b)
+exact_choice k None None f g e = contrary cc
+exact_choice k None (Some h) f g e = gives h _ g
+exact_choice k (Some h) None f g e = gives h false f
+exact_choice k (Some h) (Some i) f g e = by (h.check || not i.check)
   where
-    by : (t : Bool) → Gives k (cond t (Chosen h false) (Chosen i true))
+    by : (t : Bool) → Gives k (cond t (chosen h false) (chosen i true))
     by true = gives h false f
     by false = gives i true g
 
@@ -228,20 +224,20 @@ pub record OnRelease (g : ℕ) (v : View) (y : ReleaseStep) : Type 0 where
   pub keys : (x : ℕ) → (has x (offsets_of (given y.answer)) || has x (keys_of y.next.pending)) ≡ has x (keys_of v.pending)
   pub none : y.answer ≡ PassedOver → ⊥
 
-module _ (g : ℕ) (p : Position) (f : Freed) (ps : List Position) (last : Clock) (n : p.key % 384 ≡ g) (c : GridClock g last) (later : Later last p.key) where
-  settled_as : (h : Held) (b : Bool) → h.figures.offset ≡ p.key → settle (Chosen h b) f ps last ≡ release_step (Frame (released_as p.key h b)) f (view ps (At p.key))
+module _ (g : ℕ) (p : Position) (f : Freed) (ps : List Position) (last : Option ℕ) (n : p.key % 384 ≡ g) (c : GridClock g last) (later : Later last p.key) where
+  settled_as : (h : Held) (b : Bool) → h.figures.offset ≡ p.key → settle (chosen h b) f ps last ≡ release_step (Frame (released_as p.key h b)) f (view ps (Some p.key))
   settled_as h b e =
-      ap (λ (o : ℕ). cond (is_after last o) (release_step (Frame (released_as o h b)) f (view ps (At o))) (release_step PassedOver f (view ps last))) (ap (λ (o : ℕ). snapped last o) e ∙ snap_exact g last p.key c n later)
-      ∙ ap (λ (t : Bool). cond t (release_step (Frame (released_as p.key h b)) f (view ps (At p.key))) (release_step PassedOver f (view ps last))) (is_after_lem last p.key later)
+      ap (λ (o : ℕ). cond (is_after last o) (release_step (Frame (released_as o h b)) f (view ps (Some o))) (release_step PassedOver f (view ps last))) (ap (λ (o : ℕ). snapped last o) e ∙ snap_exact g last p.key c n later)
+      ∙ ap (λ (t : Bool). cond t (release_step (Frame (released_as p.key h b)) f (view ps (Some p.key))) (release_step PassedOver f (view ps last))) (is_after_lem last p.key later)
 
-  pub settled_next : (ch : Choice) → Gives p.key ch → (settle ch f ps last).next ≡ view ps (At p.key)
+  pub settled_next : (ch : Option Chosen) → Gives p.key ch → (settle ch f ps last).next ≡ view ps (Some p.key)
   settled_next ch (gives h b e) = ap (λ (y : ReleaseStep). y.next) (settled_as h b e)
 
-  ahead_of : (qs : List Position) → Under p.key qs → Ahead (At p.key) qs
+  ahead_of : (qs : List Position) → Under p.key qs → Ahead (Some p.key) qs
   ahead_of [] u = tt
   ahead_of (q ∷ qs) u = omega arith
 
-  settled : (ch : Choice) → Gives p.key ch → All (Exact g) ps → Under p.key ps → OnRelease g (view (p ∷ ps) last) (settle ch f ps last)
+  settled : (ch : Option Chosen) → Gives p.key ch → All (Exact g) ps → Under p.key ps → OnRelease g (view (p ∷ ps) last) (settle ch f ps last)
   unfolding has
   settled ch (gives h b e) x u =
       subst (λ (y : ReleaseStep). OnRelease g (view (p ∷ ps) last) y) (sym (settled_as h b e))
@@ -251,7 +247,7 @@ module _ (g : ℕ) (p : Position) (f : Freed) (ps : List Position) (last : Clock
         none = λ e. contrary cc;
       })
 
-pub release_on_grid : (g : ℕ) (s₀ s₁ : Clock) (flush : Bool) (l : List Position) (last : Clock) → Sound (view l last) → Gridded g (view l last) → OnRelease g (view l last) (release_from s₀ s₁ flush l last)
+pub release_on_grid : (g : ℕ) (s₀ s₁ : Option ℕ) (flush : Bool) (l : List Position) (last : Option ℕ) → Sound (view l last) → Gridded g (view l last) → OnRelease g (view l last) (release_from s₀ s₁ flush l last)
 unfolding has
 release_on_grid g s₀ s₁ flush [] last w r = record { gridded = r; keys = λ x. refl; none = λ e. contrary cc }
 release_on_grid g s₀ s₁ flush (p ∷ ps) last w r = by (is_ready s₀ s₁ flush p)
@@ -322,20 +318,20 @@ module _ (g : ℕ) (calls : List Call) (o : OnGrid g calls) where
   pub late_past : LateArePast calls started
   late_past = late_from g calls started start_sound (start_gridded g) o
 
-over_rising : (l : ℕ) (rs : List Release) → Rising (At l) rs → Over l (offsets_of rs)
+over_rising : (l : ℕ) (rs : List Release) → Rising (Some l) rs → Over l (offsets_of rs)
 over_rising l [] r = tt
 over_rising l (x ∷ rs) r = let h : l + 384 ≤ x.figures.offset = r.0.0 in omega arith
 
-ordered_rising : (last : Clock) (rs : List Release) → Rising last rs → Ordered (offsets_of rs)
+ordered_rising : (last : Option ℕ) (rs : List Release) → Rising last rs → Ordered (offsets_of rs)
 ordered_rising last [] r = tt
-ordered_rising last (x ∷ rs) r = (over_rising x.figures.offset rs r.1, ordered_rising (At x.figures.offset) rs r.1)
+ordered_rising last (x ∷ rs) r = (over_rising x.figures.offset rs r.1, ordered_rising (Some x.figures.offset) rs r.1)
 
 -- once all is released, what came out is exactly what was taken in, in order: no gap is hidden and none is made
 pub exactly : (g : ℕ) (calls : List Call) (grid : List ℕ) → OnGrid g calls → (left calls started).pending ≡ [] → Ordered grid → ((x : ℕ) → has x (took_offsets calls started) ≡ has x grid)
     → offsets_of (releases calls started) ≡ grid
 unfolding has
 exactly g calls grid o e s f =
-    same_rising (offsets_of (releases calls started)) grid (ordered_rising Absent (releases calls started) (rising calls started)) s
+    same_rising (offsets_of (releases calls started)) grid (ordered_rising None (releases calls started) (rising calls started)) s
     (λ x. sym (or-false (has x (offsets_of (releases calls started))))
     ∙ ap (λ (l : List Position). has x (offsets_of (releases calls started)) || has x (keys_of l)) (sym e)
     ∙ merged g calls o x

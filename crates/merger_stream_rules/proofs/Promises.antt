@@ -1,4 +1,5 @@
 -- Streams that keep their promise lose nothing on one grid. Assumes nothing.
+use Rattle.std.proofs.Common.{Option, Some, None}
 use mathlib.Core.Path.{◌≡◌, refl, sym, subst}
 use mathlib.Core.Bool.{Bool, true, false, cond}
 use mathlib.Core.List.{List, [], ◌∷◌}
@@ -9,11 +10,7 @@ use borrow.Author.Tests.{le-ltb, ltb-true}
 use Rattle.bits.specs.Alls.{All}
 use Rattle.bits.proofs.Alls.{all_at, all_set, all_map}
 use Rattle.bits.proofs.Ands.{both_true}
-use Rattle.merger_rules.specs.declared.Clock.{Clock}
-use Rattle.merger_rules.specs.declared.Clock.TheVariants.{Absent, At}
 use Rattle.merger_rules.specs.declared.Held.{Held}
-use Rattle.merger_rules.specs.declared.Place.{Place}
-use Rattle.merger_rules.specs.declared.Place.TheVariants.{Empty, Holds}
 use Rattle.merger_rules.specs.declared.Position.{Position}
 use Rattle.merger_rules.specs.declared.Released.TheVariants.{NothingReady}
 use Rattle.merger_rules.specs.Merging.{View, view, is_late, home_of, order_of, place_on, is_held, filled, no_position, alone, PushStep, join_of, push_of, passed, is_ready, choice_of, freed_of, none_freed, release_step, settle, release_from, release_of}
@@ -29,47 +26,47 @@ use Rattle.merger_rules.proofs.SoundCalls.{start_sound, home_near, push_sound, r
 use Rattle.merger_rules.proofs.Rising.{push_last}
 use Rattle.merger_stream_rules.proofs.Grid.{ExactPlace, Exact, GridClock, Gridded, near_equal, push_on_grid, exact_choice, settled_next, release_on_grid, start_gridded}
 
-abbrev BelowFloor : ℕ → Place → Type 0
-BelowFloor f Empty = Unit {0}
-BelowFloor f (Holds h) = h.figures.offset < f
+abbrev BelowFloor : ℕ → Option Held → Type 0
+BelowFloor f None = Unit {0}
+BelowFloor f (Some h) = h.figures.offset < f
 
 -- each frame lies below what its stream has promised
 abbrev Low : ℕ → ℕ → Position → Type 0
 Low f₀ f₁ p = BelowFloor f₀ p.primary × BelowFloor f₁ p.alternate
 
-abbrev LastBelow : ℕ → ℕ → Clock → Type 0
-LastBelow f₀ f₁ Absent = Unit {0}
-LastBelow f₀ f₁ (At l) = (l < f₀) × (l < f₁)
+abbrev LastBelow : ℕ → ℕ → Option ℕ → Type 0
+LastBelow f₀ f₁ None = Unit {0}
+LastBelow f₀ f₁ (Some l) = (l < f₀) × (l < f₁)
 
 -- what was taken in and what was released lie below what the streams have promised
 record Floors (f₀ f₁ : ℕ) (v : View) : Type 0 where
   held : All (Low f₀ f₁) v.pending
   gone : LastBelow f₀ f₁ v.last
 
-raise_place : (f f' : ℕ) (q : Place) → f ≤ f' → BelowFloor f q → BelowFloor f' q
-raise_place f f' Empty h b = tt
-raise_place f f' (Holds k) h b = let b' : k.figures.offset < f = b in omega arith
+raise_place : (f f' : ℕ) (q : Option Held) → f ≤ f' → BelowFloor f q → BelowFloor f' q
+raise_place f f' None h b = tt
+raise_place f f' (Some k) h b = let b' : k.figures.offset < f = b in omega arith
 
 raise_all : (f₀ f₁ e₀ e₁ : ℕ) (l : List Position) → f₀ ≤ e₀ → f₁ ≤ e₁ → All (Low f₀ f₁) l → All (Low e₀ e₁) l
 raise_all f₀ f₁ e₀ e₁ l a b h = all_map {Q = Low f₀ f₁} {R = Low e₀ e₁} (λ p k. (raise_place f₀ e₀ p.primary a k.0, raise_place f₁ e₁ p.alternate b k.1)) l h
 
-raise_last : (f₀ f₁ e₀ e₁ : ℕ) (l : Clock) → f₀ ≤ e₀ → f₁ ≤ e₁ → LastBelow f₀ f₁ l → LastBelow e₀ e₁ l
-raise_last f₀ f₁ e₀ e₁ Absent a b h = tt
-raise_last f₀ f₁ e₀ e₁ (At l) a b h = let x : l < f₀ = h.0 in let y : l < f₁ = h.1 in (omega arith, omega arith)
+raise_last : (f₀ f₁ e₀ e₁ : ℕ) (l : Option ℕ) → f₀ ≤ e₀ → f₁ ≤ e₁ → LastBelow f₀ f₁ l → LastBelow e₀ e₁ l
+raise_last f₀ f₁ e₀ e₁ None a b h = tt
+raise_last f₀ f₁ e₀ e₁ (Some l) a b h = let x : l < f₀ = h.0 in let y : l < f₁ = h.1 in (omega arith, omega arith)
 
 -- a push at or above its stream's promise
 record Fresh (e₀ e₁ : ℕ) (y : PushStep) : Type 0 where
   kept : NotLost y.answer
   held : All (Low e₀ e₁) y.next.pending
 
-on_time : (g : ℕ) (last : Clock) (o : ℕ) → GridClock g last → o % 384 ≡ g → Later last o → is_late last o ≡ false
-on_time g Absent o c n h = refl
-on_time g (At l) o c n h = let c' : l % 384 ≡ g = c in let h' : l < o = h in le-ltb (o + 191) _ (omega arith)
+on_time : (g : ℕ) (last : Option ℕ) (o : ℕ) → GridClock g last → o % 384 ≡ g → Later last o → is_late last o ≡ false
+on_time g None o c n h = refl
+on_time g (Some l) o c n h = let c' : l % 384 ≡ g = c in let h' : l < o = h in le-ltb (o + 191) _ (omega arith)
 
 -- an exact place below the frame's own offset is empty
-free : (o k : ℕ) (q : Place) → o ≡ k → ExactPlace k q → BelowFloor o q → is_held q ≡ false
-free o k Empty e x b = refl
-free o k (Holds h) e x b = let x' : h.figures.offset ≡ k = x in let b' : h.figures.offset < o = b in absurd (omega arith)
+free : (o k : ℕ) (q : Option Held) → o ≡ k → ExactPlace k q → BelowFloor o q → is_held q ≡ false
+free o k None e x b = refl
+free o k (Some h) e x b = let x' : h.figures.offset ≡ k = x in let b' : h.figures.offset < o = b in absurd (omega arith)
 
 false_true : (b : Bool) → b ≡ false → b ≡ true → ⊥
 false_true b p q = contrary cc
@@ -86,7 +83,7 @@ module _ (g : ℕ) (h : Held) (v : View) (w : Sound v) (r : Gridded g v) (n : h.
       (λ e. absurd (false_true _ (on_time g v.last h.figures.offset r.clock n later) e))
       (λ _ i. joined (home_of h.figures.offset v.pending) i (home_near h.figures.offset v.pending i))
       (λ _ _. open_cases (Fresh e₀ e₁) s h v (order_of h.figures.offset v.pending) (λ _. record { kept = omega arith; held = all })
-      (λ _. record { kept = tt; held = all_insert (Low e₀ e₁) (order_of h.figures.offset v.pending) v.pending (alone s h) all (fill (record { key = h.figures.offset; primary = Empty; alternate = Empty }) (tt, tt)) }))
+      (λ _. record { kept = tt; held = all_insert (Low e₀ e₁) (order_of h.figures.offset v.pending) v.pending (alone s h) all (fill (record { key = h.figures.offset; primary = None; alternate = None }) (tt, tt)) }))
     where
       joined : (at : ℕ) → at < length v.pending → IsNear h.figures.offset (key_at v.pending at) → Fresh e₀ e₁ (join_of s h v at)
       joined at i near =
@@ -97,24 +94,24 @@ module _ (g : ℕ) (h : Held) (v : View) (w : Sound v) (r : Gridded g v) (n : h.
           (λ t. absurd (false_true _ (free h.figures.offset p.key (place_on s p) e (exact at i x) (low at i)) t))
           (λ _. record { kept = tt; held = all_set (Low e₀ e₁) v.pending at (filled s h p) all (fill p (all_at (Low e₀ e₁) no_position v.pending at all i)) })
 
-later_floor : (f₀ f₁ f o : ℕ) (last : Clock) → LastBelow f₀ f₁ last → ((l : ℕ) → (l < f₀) × (l < f₁) → l < f) → f ≤ o → Later last o
-later_floor f₀ f₁ f o Absent b k h = tt
-later_floor f₀ f₁ f o (At l) b k h = let x : l < f = k l b in omega arith
+later_floor : (f₀ f₁ f o : ℕ) (last : Option ℕ) → LastBelow f₀ f₁ last → ((l : ℕ) → (l < f₀) × (l < f₁) → l < f) → f ≤ o → Later last o
+later_floor f₀ f₁ f o None b k h = tt
+later_floor f₀ f₁ f o (Some l) b k h = let x : l < f = k l b in omega arith
 
 -- a release with both streams' word
-floors_release : (g f₀ f₁ a b : ℕ) (l : List Position) (last : Clock) → Sound (view l last) → Gridded g (view l last) → Floors f₀ f₁ (view l last) → f₀ ≤ a → f₁ ≤ b
-    → Floors a b (release_from (At a) (At b) false l last).next
+floors_release : (g f₀ f₁ a b : ℕ) (l : List Position) (last : Option ℕ) → Sound (view l last) → Gridded g (view l last) → Floors f₀ f₁ (view l last) → f₀ ≤ a → f₁ ≤ b
+    → Floors a b (release_from (Some a) (Some b) false l last).next
 floors_release g f₀ f₁ a b [] last w r f x y = record { held = tt; gone = raise_last f₀ f₁ a b last x y f.gone }
-floors_release g f₀ f₁ a b (p ∷ ps) last w r f x y = by (is_ready (At a) (At b) false p) refl
+floors_release g f₀ f₁ a b (p ∷ ps) last w r f x y = by (is_ready (Some a) (Some b) false p) refl
   where
-    past : (s f k : ℕ) (q : Place) → f ≤ s → ExactPlace k q → BelowFloor f q → passed (At s) k q ≡ true → k < s
-    past s f k Empty u x b e = omega (arith, ltb-true _ s e)
-    past s f k (Holds h) u x b e = let x' : h.figures.offset ≡ k = x in let b' : h.figures.offset < f = b in omega arith
+    past : (s f k : ℕ) (q : Option Held) → f ≤ s → ExactPlace k q → BelowFloor f q → passed (Some s) k q ≡ true → k < s
+    past s f k None u x b e = omega (arith, ltb-true _ s e)
+    past s f k (Some h) u x b e = let x' : h.figures.offset ≡ k = x in let b' : h.figures.offset < f = b in omega arith
 
-    by : (t : Bool) → is_ready (At a) (At b) false p ≡ t → Floors a b (cond t (settle (choice_of p) (freed_of p) ps last) (release_step NothingReady none_freed (view (p ∷ ps) last))).next
+    by : (t : Bool) → is_ready (Some a) (Some b) false p ≡ t → Floors a b (cond t (settle (choice_of p) (freed_of p) ps last) (release_step NothingReady none_freed (view (p ∷ ps) last))).next
     by true e =
         let z : Exact g p = r.exact.0 in
-        let c : (passed (At a) p.key p.primary ≡ true) × (passed (At b) p.key p.alternate ≡ true) = both_true (passed (At a) p.key p.primary) (passed (At b) p.key p.alternate) e in
+        let c : (passed (Some a) p.key p.primary ≡ true) × (passed (Some b) p.key p.alternate ≡ true) = both_true (passed (Some a) p.key p.primary) (passed (Some b) p.key p.alternate) e in
         subst (λ (n : View). Floors a b n)
         (sym (settled_next g p (freed_of p) ps last z.on r.clock r.ahead (choice_of p) (exact_choice p.key p.primary p.alternate z.first z.second w.fair.0.held)))
         (record {
@@ -141,7 +138,7 @@ lost_from g f₀ f₁ (push zero k ∷ cs) v w r f o h =
     (λ p z. (omega arith, z.1)) in (
       y.kept,
       lost_from g (k.figures.offset + 1) f₁ cs (push_of zero k v).next (push_sound zero k v w) (push_on_grid g zero k v w r o.0).gridded
-          (record { held = y.held; gone = subst (λ (l : Clock). LastBelow (k.figures.offset + 1) f₁ l) (sym (push_last zero k v)) (raise_last f₀ f₁ (k.figures.offset + 1) f₁ v.last up e f.gone) }) o.1 h.1,
+          (record { held = y.held; gone = subst (λ (l : Option ℕ). LastBelow (k.figures.offset + 1) f₁ l) (sym (push_last zero k v)) (raise_last f₀ f₁ (k.figures.offset + 1) f₁ v.last up e f.gone) }) o.1 h.1,
     )
 lost_from g f₀ f₁ (push (suc zero) k ∷ cs) v w r f o h =
     let at : f₁ ≤ k.figures.offset = h.0 in
@@ -154,14 +151,14 @@ lost_from g f₀ f₁ (push (suc zero) k ∷ cs) v w r f o h =
     (λ p z. (z.0, omega arith)) in (
       y.kept,
       lost_from g f₀ (k.figures.offset + 1) cs (push_of 1 k v).next (push_sound 1 k v w) (push_on_grid g 1 k v w r o.0).gridded
-          (record { held = y.held; gone = subst (λ (l : Clock). LastBelow f₀ (k.figures.offset + 1) l) (sym (push_last 1 k v)) (raise_last f₀ f₁ f₀ (k.figures.offset + 1) v.last e up f.gone) }) o.1 h.1,
+          (record { held = y.held; gone = subst (λ (l : Option ℕ). LastBelow f₀ (k.figures.offset + 1) l) (sym (push_last 1 k v)) (raise_last f₀ f₁ f₀ (k.figures.offset + 1) v.last e up f.gone) }) o.1 h.1,
     )
 lost_from g f₀ f₁ (push (suc (suc s)) k ∷ cs) v w r f o h = absurd h
-lost_from g f₀ f₁ (release (At a) (At b) false ∷ cs) v w r f o h =
-    lost_from g a b cs (release_of (At a) (At b) false v).next (release_sound (At a) (At b) false v.pending v.last w) (release_on_grid g (At a) (At b) false v.pending v.last w r).gridded
+lost_from g f₀ f₁ (release (Some a) (Some b) false ∷ cs) v w r f o h =
+    lost_from g a b cs (release_of (Some a) (Some b) false v).next (release_sound (Some a) (Some b) false v.pending v.last w) (release_on_grid g (Some a) (Some b) false v.pending v.last w r).gridded
     (floors_release g f₀ f₁ a b v.pending v.last w r f h.0 h.1) o h.2
-lost_from g f₀ f₁ (release (At a) Absent false ∷ cs) v w r f o h = rest_kept cs (release_of (At a) Absent false v).next h
-lost_from g f₀ f₁ (release Absent s₁ false ∷ cs) v w r f o h = rest_kept cs (release_of Absent s₁ false v).next h
+lost_from g f₀ f₁ (release (Some a) None false ∷ cs) v w r f o h = rest_kept cs (release_of (Some a) None false v).next h
+lost_from g f₀ f₁ (release None s₁ false ∷ cs) v w r f o h = rest_kept cs (release_of None s₁ false v).next h
 lost_from g f₀ f₁ (release s₀ s₁ true ∷ cs) v w r f o h = rest_kept cs (release_of s₀ s₁ true v).next h
 
 -- frames of two streams that keep their promise, on one grid: none is late, none double

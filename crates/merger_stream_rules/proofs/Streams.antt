@@ -1,4 +1,5 @@
 -- One stream alone loses nothing but what lies halfway. Assumes nothing.
+use Rattle.std.proofs.Common.{Option, Some, None}
 use mathlib.Core.Path.{◌≡◌, refl, sym, subst}
 use mathlib.Core.Bool.{Bool, true, cond}
 use mathlib.Core.List.{List, [], ◌∷◌}
@@ -9,12 +10,10 @@ use lib.ListN.{length}
 use borrow.Author.Tests.{lt-ltb, ltb-true}
 use Rattle.bits.specs.Alls.{All}
 use Rattle.bits.proofs.Conds.{cond_both}
-use Rattle.merger_rules.specs.declared.Clock.{Clock}
-use Rattle.merger_rules.specs.declared.Clock.TheVariants.{Absent, At}
 use Rattle.merger_rules.specs.declared.Held.{Held}
 use Rattle.merger_rules.specs.declared.Freed.{Freed}
 use Rattle.merger_rules.specs.declared.Position.{Position}
-use Rattle.merger_rules.specs.declared.Choice.{Choice}
+use Rattle.merger_rules.specs.declared.Chosen.{Chosen}
 use Rattle.merger_rules.specs.declared.Released.TheVariants.{Frame, PassedOver}
 use Rattle.merger_rules.specs.Merging.{View, view, is_late, home_of, order_of, insert_at, alone, PushStep, push_of, is_ready, choice_of, snapped, freed_of, ReleaseStep, release_step, released_as, settle, release_from, release_of}
 use Rattle.merger_rules.specs.States.{IsNear, key_at}
@@ -36,9 +35,9 @@ Chain m f [] = m ≤ f
 Chain m f (p ∷ ps) = (m ≤ p.key) × Chain (p.key + 384) f ps
 
 -- what may come next lies 192 or more above the last release
-abbrev Lead : Clock → ℕ → Type 0
-Lead Absent m = Unit {0}
-Lead (At l) m = l + 192 ≤ m
+abbrev Lead : Option ℕ → ℕ → Type 0
+Lead None m = Unit {0}
+Lead (Some l) m = l + 192 ≤ m
 
 -- a position gives its own key's frame
 abbrev Own : Position → Type 0
@@ -83,9 +82,9 @@ record Pushes (o : ℕ) (v : View) (y : PushStep) : Type 0 where
   answers : KeptOrHalfway v.last o y.answer
   lone : Lone (o + 384) y.next
 
-halfway : (last : Clock) (m o : ℕ) → Lead last m → m ≤ o → is_late last o ≡ true → Halfway last o
-halfway Absent m o l h e = contrary cc
-halfway (At l) m o a h e = let a' : l + 192 ≤ m = a in omega (arith, ltb-true (o + 191) _ e)
+halfway : (last : Option ℕ) (m o : ℕ) → Lead last m → m ≤ o → is_late last o ≡ true → Halfway last o
+halfway None m o l h e = contrary cc
+halfway (Some l) m o a h e = let a' : l + 192 ≤ m = a in omega (arith, ltb-true (o + 191) _ e)
 
 push_lone : (s f : ℕ) (h : Held) (v : View) → s ≤ 1 → f ≤ h.figures.offset → Lone f v → Pushes h.figures.offset v (push_of s h v)
 push_lone s f h v one w r =
@@ -123,25 +122,25 @@ record Releases (f k : ℕ) (y : ReleaseStep) : Type 0 where
   answers : MovedLittle k y.answer
   lone : Lone f y.next
 
-lead_later : (last : Clock) (m o : ℕ) → Lead last m → m ≤ o → Later last o
-lead_later Absent m o a h = tt
-lead_later (At l) m o a h = let a' : l + 192 ≤ m = a in omega arith
+lead_later : (last : Option ℕ) (m o : ℕ) → Lead last m → m ≤ o → Later last o
+lead_later None m o a h = tt
+lead_later (Some l) m o a h = let a' : l + 192 ≤ m = a in omega arith
 
-lead_half : (last : Clock) (m o : ℕ) → Lead last m → m ≤ o → snapped last o ≤ o + 192
-lead_half Absent m o a h = omega arith
-lead_half (At l) m o a h = let a' : l + 192 ≤ m = a in let k : l + 192 ≤ o = omega arith in snapped_half l o k
+lead_half : (last : Option ℕ) (m o : ℕ) → Lead last m → m ≤ o → snapped last o ≤ o + 192
+lead_half None m o a h = omega arith
+lead_half (Some l) m o a h = let a' : l + 192 ≤ m = a in let k : l + 192 ≤ o = omega arith in snapped_half l o k
 
-settle_lone : (f k : ℕ) (c : Choice) (g : Freed) (ps : List Position) (last : Clock) (m : ℕ) → Gives k c → All Own ps → Chain (k + 384) f ps → Lead last m → m ≤ k → Releases f k (settle c g ps last)
+settle_lone : (f k : ℕ) (c : Option Chosen) (g : Freed) (ps : List Position) (last : Option ℕ) (m : ℕ) → Gives k c → All Own ps → Chain (k + 384) f ps → Lead last m → m ≤ k → Releases f k (settle c g ps last)
 settle_lone f k c g ps last m (gives h b e) own chain lead low =
     let o : ℕ = h.figures.offset in
     let low' : m ≤ h.figures.offset = omega arith in
     let s : snapped last h.figures.offset ≤ h.figures.offset + 192 = lead_half last m h.figures.offset lead low' in
     let t : h.figures.offset ≤ snapped last h.figures.offset + 191 = snapped_ge last h.figures.offset in
-    subst (λ (x : Bool). Releases f k (cond x (release_step (Frame (released_as (snapped last h.figures.offset) h b)) g (view ps (At (snapped last h.figures.offset)))) (release_step PassedOver g (view ps last))))
+    subst (λ (x : Bool). Releases f k (cond x (release_step (Frame (released_as (snapped last h.figures.offset) h b)) g (view ps (Some (snapped last h.figures.offset)))) (release_step PassedOver g (view ps last))))
     (sym (later_after last h.figures.offset (lead_later last m h.figures.offset lead low')))
     (record { answers = (omega arith, omega arith); lone = record { from = k + 384; own = own; chain = chain; lead = omega arith } })
 
-release_lone : (f : ℕ) (s₀ s₁ : Clock) (flush : Bool) (l : List Position) (last : Clock) → Lone f (view l last) → Releases f (key_at l 0) (release_from s₀ s₁ flush l last)
+release_lone : (f : ℕ) (s₀ s₁ : Option ℕ) (flush : Bool) (l : List Position) (last : Option ℕ) → Lone f (view l last) → Releases f (key_at l 0) (release_from s₀ s₁ flush l last)
 release_lone f s₀ s₁ flush [] last r = record { answers = tt; lone = r }
 release_lone f s₀ s₁ flush (p ∷ ps) last r =
     cond_both (Releases f p.key) (is_ready s₀ s₁ flush p) _ _

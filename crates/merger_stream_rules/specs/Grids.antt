@@ -1,15 +1,15 @@
 -- Frames of both streams on one grid of 384, and what two synchronisers promise. Assumes nothing.
-use Rattle.std.specs.Prelude.{◌≡◌, Bool, true, false, ◌||◌, List, [], ◌∷◌, ◌++◌, ℕ, zero, suc, ◌+◌, ◌%◌, ◌<◌, ◌≤◌, eqb}
+use Rattle.std.specs.Prelude.{◌≡◌, Bool, true, false, ◌||◌, List, [], ◌∷◌, ◌++◌, ℕ, zero, suc, ◌+◌, ◌%◌, ◌<◌, ◌≤◌, eqb, Some, None, Result, Ok, Err}
 use Rattle.bits.specs.Refusals.{number_of}
-use Rattle.merger_rules.specs.declared.Clock.TheVariants.{Absent, At}
 use Rattle.merger_rules.specs.declared.Position.{Position}
 use Rattle.merger_rules.specs.declared.Keeping.{Keeping}
-use Rattle.merger_rules.specs.declared.Keeping.TheVariants.{Kept, Double, Late, Refused}
+use Rattle.merger_rules.specs.declared.Keeping.TheVariants.{Kept, Double, Late}
 use Rattle.merger_rules.specs.declared.Release.{Release}
 use Rattle.merger_rules.specs.declared.Released.TheVariants.{PassedOver}
 use Rattle.merger_rules.specs.Merging.{View, push_of, release_of}
 use Rattle.merger_rules.specs.Scripts.{Call, after, push, release}
 use Rattle.merger_rules.specs.Offsets.{Past}
+use Rattle.bits.specs.declared.Refusal.{Refusal}
 
 unfoldable pub has : ℕ → List ℕ → Bool
 has x [] = false
@@ -24,11 +24,11 @@ keys_of [] = []
 keys_of (p ∷ ps) = p.key ∷ keys_of ps
 
 -- the offset of a frame that is taken in, kept or double: neither refused nor late
-abbrev pub took_offset : ℕ → Keeping → List ℕ
-took_offset o Kept = o ∷ []
-took_offset o Double = o ∷ []
-took_offset o Late = []
-took_offset o (Refused r) = []
+abbrev pub took_offset : ℕ → Result Keeping Refusal → List ℕ
+took_offset o (Ok Kept) = o ∷ []
+took_offset o (Ok Double) = o ∷ []
+took_offset o (Ok Late) = []
+took_offset o (Err r) = []
 
 abbrev pub took_offsets_at : Call → View → List ℕ
 took_offsets_at (push s h) v = took_offset h.figures.offset (push_of s h v).answer
@@ -53,7 +53,7 @@ NonePassed (release s₀ s₁ flush ∷ cs) v = ((release_of s₀ s₁ flush v).
 -- a push of a script is answered `late` only where its place has been released or passed
 abbrev pub LateArePast : List Call → View → Type 0
 LateArePast [] v = Unit {0}
-LateArePast (push s h ∷ cs) v = ((push_of s h v).answer ≡ Late → Past v.last h.figures.offset) × LateArePast cs (push_of s h v).next
+LateArePast (push s h ∷ cs) v = ((push_of s h v).answer ≡ Ok Late → Past v.last h.figures.offset) × LateArePast cs (push_of s h v).next
 LateArePast (release s₀ s₁ flush ∷ cs) v = LateArePast cs (release_of s₀ s₁ flush v).next
 
 -- strictly rising numbers
@@ -79,17 +79,17 @@ Honest f₀ f₁ [] = Unit {0}
 Honest f₀ f₁ (push zero h ∷ cs) = (f₀ ≤ h.figures.offset) × Honest (h.figures.offset + 1) f₁ cs
 Honest f₀ f₁ (push (suc zero) h ∷ cs) = (f₁ ≤ h.figures.offset) × Honest f₀ (h.figures.offset + 1) cs
 Honest f₀ f₁ (push (suc (suc s)) h ∷ cs) = ⊥
-Honest f₀ f₁ (release (At a) (At b) false ∷ cs) = (f₀ ≤ a) × (f₁ ≤ b) × Honest a b cs
-Honest f₀ f₁ (release (At a) Absent false ∷ cs) = NoPush cs
-Honest f₀ f₁ (release Absent s₁ false ∷ cs) = NoPush cs
+Honest f₀ f₁ (release (Some a) (Some b) false ∷ cs) = (f₀ ≤ a) × (f₁ ≤ b) × Honest a b cs
+Honest f₀ f₁ (release (Some a) None false ∷ cs) = NoPush cs
+Honest f₀ f₁ (release None s₁ false ∷ cs) = NoPush cs
 Honest f₀ f₁ (release s₀ s₁ true ∷ cs) = NoPush cs
 
 -- no push is late or double: each is kept, but for refusals 8 and 9
-abbrev pub NotLost : Keeping → Type 0
-NotLost Kept = Unit {0}
-NotLost Double = ⊥
-NotLost Late = ⊥
-NotLost (Refused r) = 7 < number_of r
+abbrev pub NotLost : Result Keeping Refusal → Type 0
+NotLost (Ok Kept) = Unit {0}
+NotLost (Ok Double) = ⊥
+NotLost (Ok Late) = ⊥
+NotLost (Err r) = 7 < number_of r
 
 abbrev pub NoneLost : List Call → View → Type 0
 NoneLost [] v = Unit {0}

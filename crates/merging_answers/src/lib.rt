@@ -8,6 +8,7 @@ ghost use Rattle.merging_rules.specs.Piles.{laid_on, insists, yields};
 ghost use Rattle.merging_shelf.specs.Slots.{shelf_slots};
 ghost use Rattle.recorder_rules.specs.Makings.{is_accepted};
 
+use bits::Refusal;
 use journal_rules::{Outcome, Tried};
 use merger_rules::Keeping;
 use merging_rules::Answered;
@@ -17,84 +18,72 @@ use merging_shelf::{Shelf, with_frame};
 pub fn passes(outcome: Outcome) -> bool
     ensures { result ≡ is_accepted outcome }
 {
-    match outcome {
-        Outcome::Untried => false,
-        Outcome::Accepted => true,
-        Outcome::Refused => false,
-    }
+    outcome == Outcome::Accepted
 }
 
 // Counts the merger's answer to a frame.
-pub fn told(answered: Answered, answer: Keeping) -> Answered
+pub fn told(answered: Answered, answer: Result<Keeping, Refusal>) -> Answered
     requires { told_of answered + 1 < most_told }
     ensures { result ≡ counted answer answered }
 {
-    let kept = answered.kept;
-    let late = answered.late;
-    let double = answered.double;
-    let refused = answered.refused;
     match answer {
-        Keeping::Kept => Answered {
-            kept: kept + 1,
-            late,
-            double,
-            refused,
+        Ok(Keeping::Kept) => Answered {
+            kept: answered.kept + 1,
+            ..answered
         },
-        Keeping::Double => Answered {
-            kept,
-            late,
-            double: double + 1,
-            refused,
+        Ok(Keeping::Double) => Answered {
+            double: answered.double + 1,
+            ..answered
         },
-        Keeping::Late => Answered {
-            kept,
-            late: late + 1,
-            double,
-            refused,
+        Ok(Keeping::Late) => Answered {
+            late: answered.late + 1,
+            ..answered
         },
-        Keeping::Refused(_) => Answered {
-            kept,
-            late,
-            double,
-            refused: refused + 1,
+        Err(_) => Answered {
+            refused: answered.refused + 1,
+            ..answered
         },
     }
 }
 
 // Lays a frame that was kept into its slot; after any other answer the shelf stays as it is.
-pub fn laid_on(shelf: Shelf, answer: Keeping, slot: usize, tried: Tried, envelope: &[u8]) -> Shelf
+pub fn laid_on(
+    shelf: Shelf,
+    answer: Result<Keeping, Refusal>,
+    slot: usize,
+    tried: Tried,
+    envelope: &[u8],
+) -> Shelf
     requires fact_1 { slot < shelf_slots }
     requires fact_2 { length envelope.now ≡ 48 }
     ensures { result ≡ laid_on answer slot tried envelope.now shelf }
 {
-    match answer {
-        Keeping::Kept => with_frame(shelf, slot, tried, envelope),
-        Keeping::Double => shelf,
-        Keeping::Late => shelf,
-        Keeping::Refused(_) => shelf,
+    if answer == Ok(Keeping::Kept) {
+        with_frame(shelf, slot, tried, envelope)
+    } else {
+        shelf
     }
 }
 
 // Tells whether a frame is handed in once more: one that decodes and was refused.
-pub fn insisting(answer: Keeping, decoded: bool) -> bool
+pub fn insisting(answer: Result<Keeping, Refusal>, decoded: bool) -> bool
     ensures { result ≡ insists decoded answer }
 {
-    match answer {
-        Keeping::Kept => false,
-        Keeping::Double => false,
-        Keeping::Late => false,
-        Keeping::Refused(_) => decoded,
-    }
+    answer.is_err() && decoded
 }
 
 // Tells whether a frame gives way: one that does not decode and was refused, or given the last of the 16 positions; `before` and `after` its push so many waited.
-pub fn yielding(answer: Keeping, decoded: bool, before: usize, after: usize) -> bool
+pub fn yielding(
+    answer: Result<Keeping, Refusal>,
+    decoded: bool,
+    before: usize,
+    after: usize,
+) -> bool
     ensures { result ≡ yields decoded answer before after }
 {
-    match answer {
-        Keeping::Kept => !decoded && (15 < after && before < after),
-        Keeping::Double => false,
-        Keeping::Late => false,
-        Keeping::Refused(_) => !decoded,
-    }
+    !decoded
+        && answer.map_or(
+            true,
+            |keeping| keeping == Keeping::Kept && 15 < after && before < after,
+        )
 }

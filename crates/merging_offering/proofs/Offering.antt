@@ -1,12 +1,13 @@
 -- What a frame that is handed in, or gives way, leaves can be written later; and frames handed in one after the other.
 -- Assumes nothing.
+use Rattle.std.proofs.Common.{None, Result, Ok, Err}
 use mathlib.Core.Path.{◌≡◌, refl, sym, ap, ap₂, subst, ◌∙◌}
 use mathlib.Core.Bool.{Bool, true, false, cond}
 use mathlib.Core.List.{List, [], ◌∷◌, ◌++◌, append_assoc, append-nil}
 use Prim.Native.Nat.{ℕ, zero, suc, ◌+◌, ◌-◌, ◌*◌, ◌≤◌, ◌<◌}
 use native.Mathlib.Omega.{arith}
 use native.Mathlib.Numerals.{add-one}
-use lib.ListN.{length, get_or, take, drop, length-set, length-append, length-take, length-drop}
+use lib.ListN.{length, get_or, take, drop, length-set, length-take}
 use lib.Seq.{take-suc}
 use Rattle.bits.specs.Alls.{All}
 use Rattle.bits.specs.declared.Refusal.TheVariants.{Positions}
@@ -19,18 +20,17 @@ use Rattle.merger.proofs.Gave.{len}
 use Rattle.merger_rules.specs.Merging.{View, held_of, home_of, order_of, filled, no_position, alone, PushStep, push_of}
 use Rattle.merger_rules.specs.Scripts.{push}
 use Rattle.merger_rules.specs.declared.Held.{Held}
-use Rattle.merger_rules.specs.declared.Clock.TheVariants.{Absent}
 use Rattle.merger_rules.specs.declared.Keeping.{Keeping}
-use Rattle.merger_rules.specs.declared.Keeping.TheVariants.{Kept, Double, Late, Refused}
-use Rattle.merger_rules.specs.declared.Place.TheVariants.{Empty}
+use Rattle.merger_rules.specs.declared.Keeping.TheVariants.{Kept, Double, Late}
 use Rattle.merger_rules.specs.declared.Position.{Position}
 use Rattle.merger_rules.proofs.Inserts.{length_insert, all_insert}
 use Rattle.merger_rules.proofs.Pushes.{push_cases, join_cases, open_cases}
-use Rattle.merging_shelf.specs.Slots.{shelf_slots, free_slot}
+use Rattle.merging_shelf.specs.Slots.{shelf_slots, free_slot, taken_in}
 use Rattle.merging_shelf.specs.declared.Shelf.{Shelf}
+use Rattle.merging_shelf.proofs.Shelving.{taken_laid}
 use Rattle.merging_rules.specs.Accounts.{told_of, counted, slots_after}
 use Rattle.merging_rules.specs.Piles.{called, Pile, Handed, handed, then, laid_on, decodes, held_for, push_for, offered_once, released, insists, yields, gives_way, let_go, offered, offered_all}
-use Rattle.merging_rules.specs.Works.{pile_of, FramesLaid, MovedBy, said, FairTried, Storable, StorablePosition, ValidWork}
+use Rattle.merging_rules.specs.Works.{pile_of, FramesLaid, MovedBy, said, FairTried, FairSlot, Storable, StorablePosition, ValidWork}
 use Rattle.merging_rules.specs.declared.Answered.{Answered}
 use Rattle.merging_rules.specs.declared.Work.{Work}
 use Rattle.merging_rules.proofs.Handing.{Same, laid_nothing, laid_more}
@@ -41,6 +41,7 @@ use Rattle.sync_call_rules.specs.Calls.{Got, slots}
 use Rattle.sync_rules.specs.Frames.{no_head}
 use Rattle.sync_rules.specs.Sizes.{slot_size}
 use Rattle.sync_rules.specs.declared.Head.{Head}
+use Rattle.bits.specs.declared.Refusal.{Refusal}
 
 -- ---- by the merger's rules
 
@@ -56,7 +57,7 @@ push_storable s h v k a =
     (filled_storable s h _ k (all_at StorablePosition no_position v.pending (home_of h.figures.offset v.pending) a i))))
     (λ p _. open_cases Q s h v (order_of h.figures.offset v.pending) (λ _. a)
     (λ _. all_insert StorablePosition (order_of h.figures.offset v.pending) v.pending (alone s h) a
-    (filled_storable s h (record { key = h.figures.offset; primary = Empty; alternate = Empty }) k (tt, tt))))
+    (filled_storable s h (record { key = h.figures.offset; primary = None; alternate = None }) k (tt, tt))))
   where
     Q : PushStep → Type 0
     Q y = All StorablePosition y.next.pending
@@ -73,32 +74,19 @@ push_more s h v =
     Q y = length y.next.pending ≤ length v.pending + 1
 
 -- ---- of a work
-laid_slots : (k : Keeping) (slot : ℕ) (t : Tried) (envelope : List ℕ) (s : Shelf) → (laid_on k slot t envelope s).taken ≡ slots_after k slot s.taken
-laid_slots Kept slot t envelope s = refl
-laid_slots Double slot t envelope s = refl
-laid_slots Late slot t envelope s = refl
-laid_slots (Refused x) slot t envelope s = refl
+laid_slots : (k : Result Keeping Refusal) (slot : ℕ) (t : Tried) (envelope : List ℕ) (s : Shelf) → taken_in (laid_on k slot t envelope s) ≡ slots_after k slot (taken_in s)
+laid_slots (Ok Kept) slot t envelope s = taken_laid s.slots slot t envelope
+laid_slots (Ok Double) slot t envelope s = refl
+laid_slots (Ok Late) slot t envelope s = refl
+laid_slots (Err x) slot t envelope s = refl
 
-laid_fair : (k : Keeping) (slot : ℕ) (t : Tried) (envelope : List ℕ) (s : Shelf) → FairTried t → All FairTried s.tried → All FairTried (laid_on k slot t envelope s).tried
-laid_fair Kept slot t envelope s f a = all_set FairTried s.tried slot t a f
-laid_fair Double slot t envelope s f a = a
-laid_fair Late slot t envelope s f a = a
-laid_fair (Refused x) slot t envelope s f a = a
+laid_fair : (k : Result Keeping Refusal) (slot : ℕ) (t : Tried) (envelope : List ℕ) (s : Shelf) → FairTried t → length envelope ≡ 48 → All FairSlot s.slots → All FairSlot (laid_on k slot t envelope s).slots
+laid_fair (Ok Kept) slot t envelope s f l a = all_set FairSlot s.slots slot _ a (record { tried = f; envelope = l })
+laid_fair (Ok Double) slot t envelope s f l a = a
+laid_fair (Ok Late) slot t envelope s f l a = a
+laid_fair (Err x) slot t envelope s f l a = a
 
-laid_many : (k : Keeping) (slot : ℕ) (t : Tried) (envelope : List ℕ) (s : Shelf) → length (laid_on k slot t envelope s).tried ≡ length s.tried
-laid_many Kept slot t envelope s = length-set s.tried slot t
-laid_many Double slot t envelope s = refl
-laid_many Late slot t envelope s = refl
-laid_many (Refused x) slot t envelope s = refl
-
-laid_long : (k : Keeping) (slot : ℕ) (t : Tried) (envelope : List ℕ) (s : Shelf) → slot < shelf_slots → length envelope ≡ 48 → length s.envelopes ≡ 1584 → length (laid_on k slot t envelope s).envelopes ≡ 1584
-laid_long Kept slot t envelope s i l e =
-    omega (arith, length-append (take (48 * slot) s.envelopes) (envelope ++ drop (48 * slot + 48) s.envelopes), length-append envelope (drop (48 * slot + 48) s.envelopes), length-take (48 * slot) s.envelopes, length-drop (48 * slot + 48) s.envelopes)
-laid_long Double slot t envelope s i l e = e
-laid_long Late slot t envelope s i l e = e
-laid_long (Refused x) slot t envelope s i l e = e
-
-module _ (w : Work) (v : ValidWork w) (stream slot : ℕ) (first : slot ≡ free_slot w.shelf.taken) (head : Head) (h : Storable head) (t : Tried) (f : FairTried t) (passes : Bool) (yes : passes ≡ is_accepted t.outcome) (r : AfterPush) (g : PushGave w.merger (push_of stream (held_of head slot passes) (view_of w.merger)) r) (envelope : List ℕ) where
+module _ (w : Work) (v : ValidWork w) (stream slot : ℕ) (first : slot ≡ free_slot (taken_in w.shelf)) (head : Head) (h : Storable head) (t : Tried) (f : FairTried t) (passes : Bool) (yes : passes ≡ is_accepted t.outcome) (r : AfterPush) (g : PushGave w.merger (push_of stream (held_of head slot passes) (view_of w.merger)) r) (envelope : List ℕ) where
   abbrev got : Got
   got = record { head = head; envelope = envelope }
 
@@ -119,17 +107,15 @@ module _ (w : Work) (v : ValidWork w) (stream slot : ℕ) (first : slot ≡ free
     pub offered_as : pile_of next ≡ (offered_once (said t) stream got (pile_of w)).pile
     offered_as =
         let k = push_for (said t) stream got (pile_of w) in
-        ap₂ (λ (m : View) (z : Shelf). record { merger = m; shelf = z; answered = answered; gone = w.gone }) (g.leaves ∙ ap (λ (y : PushStep). y.next) same) (s ∙ ap₂ (λ (b : Keeping) (n : ℕ). laid_on b n t envelope w.shelf) answered_as first)
-        ∙ ap (λ (z : Answered). record { merger = k.next; shelf = laid_on k.answer (free_slot w.shelf.taken) t envelope w.shelf; answered = z; gone = w.gone }) (a ∙ ap (λ (b : Keeping). counted b w.answered) answered_as)
+        ap₂ (λ (m : View) (z : Shelf). record { merger = m; shelf = z; answered = answered; gone = w.gone }) (g.leaves ∙ ap (λ (y : PushStep). y.next) same) (s ∙ ap₂ (λ (b : Result Keeping Refusal) (n : ℕ). laid_on b n t envelope w.shelf) answered_as first)
+        ∙ ap (λ (z : Answered). record { merger = k.next; shelf = laid_on k.answer (free_slot (taken_in w.shelf)) t envelope w.shelf; answered = z; gone = w.gone }) (a ∙ ap (λ (b : Result Keeping Refusal). counted b w.answered) answered_as)
 
-    pub valid_offered : slot < shelf_slots → get_or w.shelf.taken slot false ≡ false → length envelope ≡ 48 → ValidWork next
+    pub valid_offered : slot < shelf_slots → get_or (taken_in w.shelf) slot false ≡ false → length envelope ≡ 48 → ValidWork next
     valid_offered small free long =
         record {
-          accounted = push_accounts w v.accounted stream (held_of head slot passes) r g small free shelf answered (ap (λ (z : Shelf). z.taken) s ∙ laid_slots r.answer slot t envelope w.shelf) a;
+          accounted = push_accounts w v.accounted stream (held_of head slot passes) r g small free shelf answered (ap taken_in s ∙ laid_slots r.answer slot t envelope w.shelf) a;
           storable = subst (λ (z : View). All StorablePosition z.pending) (sym g.leaves) (push_storable stream (held_of head slot passes) (view_of w.merger) h v.storable);
-          fair = subst (λ (z : Shelf). All FairTried z.tried) (sym s) (laid_fair r.answer slot t envelope w.shelf f v.fair);
-          tried = ap (λ (z : Shelf). length z.tried) s ∙ laid_many r.answer slot t envelope w.shelf ∙ v.tried;
-          envelopes = ap (λ (z : Shelf). length z.envelopes) s ∙ laid_long r.answer slot t envelope w.shelf small long v.envelopes;
+          fair = subst (λ (z : Shelf). All FairSlot z.slots) (sym s) (laid_fair r.answer slot t envelope w.shelf f long v.fair);
         }
 
 -- ---- a frame that is handed in, once or once more, or gives way
@@ -144,10 +130,10 @@ yes b x y e = ap (λ (z : Bool). cond z x y) e
 
 module _ (t : Tried) (stream : ℕ) (g : Got) (w : Work) where
   -- whether it gives way, by what was counted of the positions
-  pub gives_as : (w' : Work) (decoded : Bool) (k : Keeping) → ValidWork w → ValidWork w' → decoded ≡ decodes (said t) g → k ≡ (push_for (said t) stream g (pile_of w)).answer
+  pub gives_as : (w' : Work) (decoded : Bool) (k : Result Keeping Refusal) → ValidWork w → ValidWork w' → decoded ≡ decodes (said t) g → k ≡ (push_for (said t) stream g (pile_of w)).answer
       → pile_of w' ≡ (offered_once (said t) stream g (pile_of w)).pile → yields decoded k w.merger.n w'.merger.n ≡ gives_way (said t) stream g (pile_of w)
   gives_as w' decoded k v v' d a p =
-      ap₂ (λ (b : Bool) (y : Keeping). yields b y w.merger.n w'.merger.n) d a
+      ap₂ (λ (b : Bool) (y : Result Keeping Refusal). yields b y w.merger.n w'.merger.n) d a
       ∙ ap₂ (λ (m n : ℕ). yields (decodes (said t) g) (push_for (said t) stream g (pile_of w)).answer m n) (sym (len w.merger v.accounted.valid))
       (sym (len w'.merger v'.accounted.valid) ∙ ap (λ (q : Pile). length q.merger.pending) p)
 
@@ -168,7 +154,7 @@ module _ (t : Tried) (stream : ℕ) (g : Got) (w : Work) where
 
   -- it gives way
   abbrev without : Work
-  without = record { merger = w.merger; shelf = w.shelf; answered = counted (Refused Positions) w.answered; gone = w.gone }
+  without = record { merger = w.merger; shelf = w.shelf; answered = counted (Err Positions) w.answered; gone = w.gone }
 
   pub offered_none : (out : List ℕ) (lay : Laid) (w' : Work) → insisted ≡ false → gives_way (said t) stream g (pile_of w) ≡ true → w' ≡ without → MovedBy (offered (said t) stream g (pile_of w)) out out lay w' lay
   offered_none out lay w' e f p =
@@ -179,20 +165,20 @@ module _ (t : Tried) (stream : ℕ) (g : Got) (w : Work) where
   valid_none w' v p =
       let a = v.accounted in
       subst ValidWork (sym p)
-      (record { accounted = record { valid = a.valid; slots = a.slots; shelved = a.shelved; balance = a.balance }; storable = v.storable; fair = v.fair; tried = v.tried; envelopes = v.envelopes })
+      (record { accounted = record { valid = a.valid; slots = a.slots; shelved = a.shelved; balance = a.balance }; storable = v.storable; fair = v.fair })
 
   pub told_none : (w' : Work) → w' ≡ without → told_of w'.answered ≡ told_of w.answered + 1
-  told_none w' p = ap (λ (z : Work). told_of z.answered) p ∙ (push_counted_lem (Refused Positions) w.answered).0
+  told_none w' p = ap (λ (z : Work). told_of z.answered) p ∙ (push_counted_lem (Err Positions) w.answered).0
 
   -- the first position goes out before its time, and it is handed in once more
   pub offered_twice : (out left : List ℕ) (lay lay' : Laid) (u w' : Work) → insists (decodes (said t) g) (push_for (said t) stream g (pile_of w)).answer ≡ true
-      → MovedBy (released Absent Absent true (pile_of w)) out left lay u lay' → pile_of w' ≡ (offered_once (said t) stream g (pile_of u)).pile
+      → MovedBy (released None None true (pile_of w)) out left lay u lay' → pile_of w' ≡ (offered_once (said t) stream g (pile_of u)).pile
       → MovedBy (offered (said t) stream g (pile_of w)) out left lay w' lay'
   offered_twice out left lay lay' u w' e m p =
-      let a : offered (said t) stream g (pile_of w) ≡ then (then (handed (pile_of w) [] (called (push stream (held_for (said t) g (pile_of w))) ∷ [])) (released Absent Absent true)) (offered_once (said t) stream g) = yes _ _ _ e in
+      let a : offered (said t) stream g (pile_of w) ≡ then (then (handed (pile_of w) [] (called (push stream (held_for (said t) g (pile_of w))) ∷ [])) (released None None true)) (offered_once (said t) stream g) = yes _ _ _ e in
       record {
         pile = p ∙ ap (λ (q : Pile). (offered_once (said t) stream g q).pile) m.pile ∙ sym (ap (λ (h : Handed). h.pile) a);
-        laid = subst (λ (fs : List Framed). FramesLaid out left lay fs lay') (sym (ap (λ (h : Handed). h.out) a ∙ append-nil (released Absent Absent true (pile_of w)).out)) m.laid;
+        laid = subst (λ (fs : List Framed). FramesLaid out left lay fs lay') (sym (ap (λ (h : Handed). h.out) a ∙ append-nil (released None None true (pile_of w)).out)) m.laid;
       }
 
 -- what is said of the envelope is what is tried

@@ -8,38 +8,30 @@ ghost use Rattle.merging_rules.specs.Works.{FramesLaid, WritableFrom, need_of};
 ghost use Rattle.merging_shelf.specs.Slots.{shelf_slots, IsSlot};
 
 use merger::chosen;
-use merger_rules::{Free, Freed, Release, Released};
+use merger_rules::{Freed, Release, Released};
 use merging_shelf::Shelf;
 use recorder_records::put_frame;
 use recorder_rules::Laid;
 
 // Gives the slot whose number a place gave back, and 0 where it gave back none.
-fn slot_of(free: Free) -> usize
+fn slot_of(free: Option<u64>) -> usize
     requires { IsSlot free }
     ensures value { result ≡ freed_slot free }
     ensures few { result < shelf_slots }
 {
-    match free {
-        Free::Nothing => 0,
-        Free::Number(slot) => slot as usize,
-    }
+    free.map_or(0, |slot| slot as usize)
 }
 
 // Gives the envelope of the stream that the merger names, itself and no copy, from the slots of the position that it gave back.
-fn envelope_for(envelopes: &[u8], freed: Freed, alternate: bool) -> &[u8]
+fn envelope_for(shelf: &Shelf, freed: Freed, alternate: bool) -> &[u8]
     requires fact_1 { IsSlot freed.primary }
     requires fact_2 { IsSlot freed.alternate }
-    requires fact_3 { length envelopes.now ≡ 1584 }
-    ensures result_value { result.now ≡ envelope_for freed «alternate» envelopes.now }
+    ensures result_value { result.now ≡ envelope_for freed «alternate» shelf.now.slots }
     ensures size { length result.now ≡ 48 }
 {
-    let first = freed.primary;
-    let second = freed.alternate;
-    let a = 48 * slot_of(first);
-    let b = 48 * slot_of(second);
-    let c = a + 48;
-    let d = b + 48;
-    chosen(&envelopes[a..c], &envelopes[b..d], alternate)
+    let primary = &shelf.slots[slot_of(freed.primary)].envelope;
+    let other = &shelf.slots[slot_of(freed.alternate)].envelope;
+    chosen(primary, other, alternate)
 }
 
 // Lays the record of a frame that is handed on, with the gap before it. What was said of it lies in the slot of its number.
@@ -51,19 +43,18 @@ fn put_release(shelf: Shelf, laid: Laid, freed: Freed, r: Release, out: &mut [u8
     ensures frames_laid { FramesLaid out.old out.new laid (framed_from shelf freed r ∷ []) result }
     ensures few { result.size ≤ laid.size + 128 }
 {
-    let envelopes = shelf.envelopes;
-    let envelope = envelope_for(&envelopes, freed, r.alternate);
-    let slot = r.number as usize;
-    let all = shelf.tried;
-    let tried = all[slot];
-    let earlier = laid.earlier;
+    let envelope = envelope_for(&shelf, freed, r.alternate);
     let before = Laid {
-        size: laid.size,
         accepted: 0,
-        earlier,
+        ..laid
     };
-    let figures = r.figures;
-    put_frame(before, figures, tried, envelope, out)
+    put_frame(
+        before,
+        r.figures,
+        shelf.slots[r.number as usize].tried,
+        envelope,
+        out,
+    )
 }
 
 // Lays what a release hands on, if it hands on a frame.
@@ -83,7 +74,6 @@ pub fn put_released(
 {
     match answer {
         Released::Frame(r) => put_release(shelf, laid, freed, r, out),
-        Released::PassedOver => laid,
-        Released::NothingReady => laid,
+        Released::PassedOver | Released::NothingReady => laid,
     }
 }

@@ -7,13 +7,13 @@ ghost use Rattle.merging_rules.specs.Accounts.{Idle, TakesOut, most_told, told_o
 ghost use Rattle.merging_rules.specs.Piles.{released, all_released};
 ghost use Rattle.merging_rules.specs.Works.{pile_of, MovedBy, reserved, ValidWork, OneLess};
 
-use merger_rules::{Clock, Released};
+use merger_rules::Released;
 use merging_records::put_released;
 use merging_rules::{Gone, Work};
 use merging_shelf::{how_many, without};
 use recorder_rules::Laid;
 
-// Hands back the work after a call, and what is laid.
+// Holds the work, and what is laid of the frames that it handed on.
 #[derive(Clone, Copy)]
 pub struct Moved {
     pub work: Work,
@@ -30,12 +30,11 @@ fn counted(gone: Gone, answer: Released, out: u64) -> Gone
         Released::Frame(_) => Gone {
             released: gone.released + 1,
             others: gone.others + (out - 1),
-            passed: gone.passed,
+            ..gone
         },
         Released::PassedOver => Gone {
-            released: gone.released,
-            others: gone.others,
             passed: gone.passed + out,
+            ..gone
         },
         Released::NothingReady => gone,
     }
@@ -43,68 +42,56 @@ fn counted(gone: Gone, answer: Released, out: u64) -> Gone
 
 // Takes the first position out and lays its frame, if it is ready.
 pub fn release_first(
-    w: Work,
-    laid: Laid,
-    primary: Clock,
-    alternate: Clock,
+    before: Moved,
+    primary: Option<u64>,
+    alternate: Option<u64>,
     flush: bool,
     out: &mut [u8],
 ) -> Moved
-    requires fact_1 { ValidWork w }
-    requires fact_2 { told_of w.answered < most_told }
-    requires fact_3 { reserved w laid ≤ length out.old }
+    requires fact_1 { ValidWork before.work }
+    requires fact_2 { told_of before.work.answered < most_told }
+    requires fact_3 { reserved before.work before.laid ≤ length out.old }
     ensures valid { ValidWork result.work }
-    ensures moved { MovedBy (released primary alternate flush (pile_of w)) out.old out.new laid result.work result.laid }
-    ensures reserved { reserved result.work result.laid ≤ reserved w laid }
-    ensures fewer { OneLess primary alternate flush w.merger result.work.merger }
+    ensures moved { MovedBy (released primary alternate flush (pile_of before.work)) out.old out.new before.laid result.work result.laid }
+    ensures reserved { reserved result.work result.laid ≤ reserved before.work before.laid }
+    ensures fewer { OneLess primary alternate flush before.work.merger result.work.merger }
 {
-    let m = w.merger;
-    let before = w.shelf;
-    let after = m.release(primary, alternate, flush);
-    let answer = after.answer;
-    let freed = after.freed;
-    let next = put_released(before, laid, freed, answer, out);
-    let gone = w.gone;
-    let more = counted(gone, answer, how_many(freed));
-    let shelf = without(before, freed);
-    let merger = after.merger;
-    let answered = w.answered;
-    let work = Work {
-        merger,
-        shelf,
-        answered,
-        gone: more,
-    };
-    Moved { work, laid: next }
+    let work = before.work;
+    let after = work.merger.release(primary, alternate, flush);
+    let laid = put_released(work.shelf, before.laid, after.freed, after.answer, out);
+    Moved {
+        work: Work {
+            merger: after.merger,
+            shelf: without(work.shelf, after.freed),
+            gone: counted(work.gone, after.answer, how_many(after.freed)),
+            ..work
+        },
+        laid,
+    }
 }
 
 // Releases until no position goes out any more: as long as fewer wait than before. It starts from 17, one more than can wait.
 pub fn release_all(
-    w: Work,
-    laid: Laid,
-    primary: Clock,
-    alternate: Clock,
+    before: Moved,
+    primary: Option<u64>,
+    alternate: Option<u64>,
     flush: bool,
     out: &mut [u8],
 ) -> Moved
-    requires fact_1 { ValidWork w }
-    requires fact_2 { told_of w.answered < most_told }
-    requires fact_3 { reserved w laid ≤ length out.old }
+    requires fact_1 { ValidWork before.work }
+    requires fact_2 { told_of before.work.answered < most_told }
+    requires fact_3 { reserved before.work before.laid ≤ length out.old }
     ensures valid { ValidWork result.work }
-    ensures moved { MovedBy (all_released primary alternate flush (pile_of w)) out.old out.new laid result.work result.laid }
-    ensures reserved { reserved result.work result.laid ≤ reserved w laid }
+    ensures moved { MovedBy (all_released primary alternate flush (pile_of before.work)) out.old out.new before.laid result.work result.laid }
+    ensures reserved { reserved result.work result.laid ≤ reserved before.work before.laid }
     ensures idle { Idle primary alternate flush result.work.merger }
 {
-    let mut work = w;
-    let mut lay = laid;
-    let mut before = 17;
-    while work.merger.n < before {
-        before = work.merger.n;
-        let moved = release_first(work, lay, primary, alternate, flush, &mut *out);
-        let next = moved.work;
-        let more = moved.laid;
-        work = next;
-        lay = more;
+    let mut moved = before;
+    // kept: a `while`, since a `for` is no plainer: it counts nothing, and ends with the first release that takes nothing out.
+    let mut waited = 17;
+    while moved.work.merger.n < waited {
+        waited = moved.work.merger.n;
+        moved = release_first(moved, primary, alternate, flush, out);
     }
-    Moved { work, laid: lay }
+    moved
 }

@@ -1,5 +1,6 @@
 -- One dibit of a recording: what it makes of its synchroniser, until its end or until 2^40 dibits were taken.
 -- Assumes nothing.
+use Rattle.std.proofs.Common.{Option, Some, None, Result, Ok, Err}
 use mathlib.Core.Path.{◌≡◌, refl, sym, ap, subst, ◌∙◌}
 use mathlib.Core.Bool.{Bool, true, false}
 use mathlib.Core.List.{List, [], ◌∷◌, ◌++◌, append_assoc, append-nil}
@@ -15,15 +16,11 @@ use Rattle.bits.specs.declared.Refusal.TheVariants.{StreamEnd}
 use Rattle.bits.proofs.Belows.{below_none}
 use Rattle.bits.proofs.Conds.{cond_ge, cond_le, cond_gt}
 use Rattle.merge_stretches.specs.Stretches.{settled_by, settled_of}
-use Rattle.merger_rules.specs.declared.Clock.{Clock}
-use Rattle.merger_rules.specs.declared.Clock.TheVariants.{Absent, At}
 use Rattle.recorder_rules.proofs.Feeding.{dibits_taken}
 use Rattle.recorder_rules.proofs.Rising.{Onward, onward_le, run_goes}
 use Rattle.sync_call_rules.specs.Calls.{Got, shown_as}
 use Rattle.sync_call_rules.proofs.Shown.{shown_append}
 use Rattle.sync_inputs.specs.Answers.{answer_by, answer_to}
-use Rattle.sync_inputs.specs.declared.Push.{Push}
-use Rattle.sync_inputs.specs.declared.Push.TheVariants.{Taken, Refused}
 use Rattle.sync_rules.specs.Counts.{state_after}
 use Rattle.sync_rules.specs.Demand.{sent_by}
 use Rattle.sync_rules.specs.Frames.{Frame}
@@ -39,6 +36,7 @@ use Rattle.merging_rules.specs.Settling.{Open, Further, settled_at}
 use Rattle.merging_rules.specs.Merged.{Dibits}
 use Rattle.merging_rules.proofs.Sending.{as_dibits}
 use Rattle.merging_rules.proofs.Offering.{IsOf}
+use Rattle.bits.specs.declared.Refusal.{Refusal}
 
 -- ---- the first n of a list, and of these the first m
 
@@ -80,37 +78,37 @@ dibit_at (x ∷ xs) (suc n) d h = dibit_at xs n d.1 (le_of_suc-le-suc h)
 
 -- ---- the answer to a dibit
 
-answers_taken : (x : Input) (m : State) → x.dibit < 4 → m.figures.taken < most_dibits → answer_to room_size x m ≡ Taken
+answers_taken : (x : Input) (m : State) → x.dibit < 4 → m.figures.taken < most_dibits → answer_to room_size x m ≡ Ok tt
 unfolding answer_to answer_by
-answers_taken x m d h = cond_ge {A = Push} 3 x.dibit _ _ (omega arith) ∙ cond_gt {A = Push} most_dibits m.figures.taken _ _ h
+answers_taken x m d h = cond_ge {A = (Result Unit Refusal)} 3 x.dibit _ _ (omega arith) ∙ cond_gt {A = (Result Unit Refusal)} most_dibits m.figures.taken _ _ h
 
-answers_end : (x : Input) (m : State) → x.dibit < 4 → most_dibits ≤ m.figures.taken → answer_to room_size x m ≡ Refused StreamEnd
+answers_end : (x : Input) (m : State) → x.dibit < 4 → most_dibits ≤ m.figures.taken → answer_to room_size x m ≡ Err StreamEnd
 unfolding answer_to answer_by
-answers_end x m d h = cond_ge {A = Push} 3 x.dibit _ _ (omega arith) ∙ cond_le {A = Push} most_dibits m.figures.taken _ _ h
+answers_end x m d h = cond_ge {A = (Result Unit Refusal)} 3 x.dibit _ _ (omega arith) ∙ cond_le {A = (Result Unit Refusal)} most_dibits m.figures.taken _ _ h
 
 -- what a feed of one dibit gives, by the answer
 record Took (x : Input) (m : State) (o : FedOut) : Type 0 where
   sent : o.sent ≡ (step x m).sent
   next : o.next ≡ (step x m).next
-  settled : settled_of o ≡ At (step x m).next.figures.clock
+  settled : settled_of o ≡ Some (step x m).next.figures.clock
 
 took_sent : (x : Input) (m : State) (fs : List Frame) → (step x m).sent ≡ fs → Took x m (unless_sent fs (step x m).next (fed_of room_size [] (step x m).next))
 unfolding unless_sent one_more fed_of settled_by
 took_sent x m [] e = record { sent = sym e; next = refl; settled = refl }
 took_sent x m (f ∷ fs) e = record { sent = sym e; next = refl; settled = refl }
 
-took : (x : Input) (m : State) (a : Push) → a ≡ Taken → Took x m (unless_refused a m (step x m) (fed_of room_size [] (step x m).next))
+took : (x : Input) (m : State) (a : Result Unit Refusal) → a ≡ Ok tt → Took x m (unless_refused a m (step x m) (fed_of room_size [] (step x m).next))
 unfolding unless_refused
-took x m a e = subst (λ (b : Push). Took x m (unless_refused b m (step x m) (fed_of room_size [] (step x m).next))) (sym e) (took_sent x m (step x m).sent refl)
+took x m a e = subst (λ (b : Result Unit Refusal). Took x m (unless_refused b m (step x m) (fed_of room_size [] (step x m).next))) (sym e) (took_sent x m (step x m).sent refl)
 
 record Ended (m : State) (o : FedOut) : Type 0 where
   sent : o.sent ≡ []
   next : o.next ≡ m
-  settled : settled_of o ≡ Absent
+  settled : settled_of o ≡ None
 
-ended : (x : Input) (m : State) (a : Push) → a ≡ Refused StreamEnd → Ended m (unless_refused a m (step x m) (fed_of room_size [] (step x m).next))
+ended : (x : Input) (m : State) (a : Result Unit Refusal) → a ≡ Err StreamEnd → Ended m (unless_refused a m (step x m) (fed_of room_size [] (step x m).next))
 unfolding unless_refused settled_by
-ended x m a e = subst (λ (b : Push). Ended m (unless_refused b m (step x m) (fed_of room_size [] (step x m).next))) (sym e) (record { sent = refl; next = refl; settled = refl })
+ended x m a e = subst (λ (b : Result Unit Refusal). Ended m (unless_refused b m (step x m) (fed_of room_size [] (step x m).next))) (sym e) (record { sent = refl; next = refl; settled = refl })
 
 no_more : (m : State) → Ended m (fed [] m)
 unfolding fed_of settled_by
@@ -120,8 +118,8 @@ no_more m = record { sent = refl; next = refl; settled = refl }
 
 pub data Fed (xs : List Input) (n : ℕ) (m : State) (o : FedOut) : Type 0 where
   goes : (x : Input) → x.dibit < 4 → n < many xs → up_to (suc n) xs ≡ up_to n xs ++ (x ∷ []) → o.sent ≡ (step x m).sent → o.next ≡ (step x m).next
-      → settled_of o ≡ At (step x m).next.figures.clock → Fed xs n m o
-  over : many xs ≤ n → up_to (suc n) xs ≡ up_to n xs → o.sent ≡ [] → o.next ≡ m → settled_of o ≡ Absent → Fed xs n m o
+      → settled_of o ≡ Some (step x m).next.figures.clock → Fed xs n m o
+  over : many xs ≤ n → up_to (suc n) xs ≡ up_to n xs → o.sent ≡ [] → o.next ≡ m → settled_of o ≡ None → Fed xs n m o
 
 module _ (xs : List Input) (d : Dibits xs) (n : ℕ) where
   abbrev now : State
@@ -206,8 +204,8 @@ fed_in xs n o w =
 -- ---- how far the recording is settled
 
 pub settled_as : (xs : List Input) (n : ℕ) (m : State) (o : FedOut) → Fed xs n m o → settled_of o ≡ settled_at (suc n) xs o.next
-settled_as xs n m o (goes x d h u s e c) = c ∙ ap (λ (z : State). At z.figures.clock) (sym e) ∙ sym (cond_le {A = Clock} (suc n) (many xs) _ _ h)
-settled_as xs n m o (over h u s e c) = c ∙ sym (cond_gt {A = Clock} (suc n) (many xs) _ _ (omega arith))
+settled_as xs n m o (goes x d h u s e c) = c ∙ ap (λ (z : State). Some z.figures.clock) (sym e) ∙ sym (cond_le {A = (Option ℕ)} (suc n) (many xs) _ _ h)
+settled_as xs n m o (over h u s e c) = c ∙ sym (cond_gt {A = (Option ℕ)} (suc n) (many xs) _ _ (omega arith))
 
 still_open : (a b : ℕ) (fs : List Frame) (c : ℕ) → a ≤ b → Onward b fs c → All (λ (g : Got). a ≤ g.head.offset) (shown_as fs)
 unfolding shown_as
@@ -228,19 +226,19 @@ unfolding shown_as
 fed_open xs d n o (goes x small h u s e c) =
     let m = state_after (up_to n xs) in
     subst (λ (l : List Frame). All (λ (g : Got). Open (settled_at n xs m) g.head.offset) (shown_as l)) (sym s)
-    (subst (λ (k : Clock). All (λ (g : Got). Open k g.head.offset) (shown_as (step x m).sent)) (sym (cond_le {A = Clock} n (many xs) _ _ (omega arith)))
+    (subst (λ (k : Option ℕ). All (λ (g : Got). Open k g.head.offset) (shown_as (step x m).sent)) (sym (cond_le {A = (Option ℕ)} n (many xs) _ _ (omega arith)))
     (still_open m.figures.clock m.figures.clock (step x m).sent (step x m).next.figures.clock (omega arith) (onward xs d n x small)))
 fed_open xs d n o (over h u s e c) =
     subst (λ (l : List Frame). All (λ (g : Got). Open (settled_at n xs (state_after (up_to n xs))) g.head.offset) (shown_as l)) (sym s) tt
 
-further_ended : (c : Clock) → Further c Absent
-further_ended Absent = tt
-further_ended (At c) = tt
+further_ended : (c : Option ℕ) → Further c None
+further_ended None = tt
+further_ended (Some c) = tt
 
 pub fed_further : (xs : List Input) → Dibits xs → (n : ℕ) (o : FedOut) → Fed xs n (state_after (up_to n xs)) o → Further (settled_at n xs (state_after (up_to n xs))) (settled_of o)
 fed_further xs d n o (goes x small h u s e c) =
     let m = state_after (up_to n xs) in
     subst (Further (settled_at n xs m)) (sym c)
-    (subst (λ (k : Clock). Further k (At (step x m).next.figures.clock)) (sym (cond_le {A = Clock} n (many xs) _ _ (omega arith)))
+    (subst (λ (k : Option ℕ). Further k (Some (step x m).next.figures.clock)) (sym (cond_le {A = (Option ℕ)} n (many xs) _ _ (omega arith)))
     (onward_le m.figures.clock (step x m).sent (step x m).next.figures.clock (onward xs d n x small)))
 fed_further xs d n o (over h u s e c) = subst (Further (settled_at n xs (state_after (up_to n xs)))) (sym c) (further_ended (settled_at n xs (state_after (up_to n xs))))

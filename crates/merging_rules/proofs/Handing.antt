@@ -1,5 +1,6 @@
 -- Frames laid behind frames, and releases one after the other.
 -- Assumes nothing.
+use Rattle.std.proofs.Common.{Option, Some}
 use mathlib.Core.Path.{◌≡◌, refl, sym, ap, ap₂, ◌∙◌}
 use mathlib.Core.Bool.{Bool}
 use mathlib.Core.List.{List, [], ◌∷◌, ◌++◌, append_assoc, append-nil}
@@ -8,10 +9,7 @@ use native.Mathlib.Omega.{arith}
 use lib.ListN.{length, length-append}
 use lib.Seq.{sets, length-sets}
 use Rattle.journal_rules.specs.Gaps.{Framed, Piece, piece_of, gap_to, gap_pieces, pieces_from}
-use Rattle.journal_rules.specs.declared.Earlier.{Earlier}
-use Rattle.journal_rules.specs.declared.Earlier.TheVariants.{At}
 use Rattle.merger_rules.specs.Merging.{ReleaseStep, release_of}
-use Rattle.merger_rules.specs.declared.Clock.{Clock}
 use Rattle.merger_rules.specs.declared.Released.TheVariants.{NothingReady}
 use Rattle.merger_rules.proofs.TakenOut.{not_ready}
 use Rattle.merging_shelf.specs.Slots.{count_freed}
@@ -25,22 +23,22 @@ use Rattle.merging_rules.specs.Works.{last_written, bytes_of, FramesLaid}
 
 -- ---- frames behind frames
 
-pieces_more : (e : Earlier) (fs gs : List Framed) → pieces_from e (fs ++ gs) ≡ pieces_from e fs ++ pieces_from (last_written e fs) gs
+pieces_more : (e : Option ℕ) (fs gs : List Framed) → pieces_from e (fs ++ gs) ≡ pieces_from e fs ++ pieces_from (last_written e fs) gs
 unfolding pieces_from last_written
 pieces_more e [] gs = refl
 pieces_more e (f ∷ fs) gs =
-    ap (λ (l : List Piece). gap_pieces (gap_to e f.place) ++ (piece_of f ∷ l)) (pieces_more (At f.place) fs gs)
-    ∙ sym (append_assoc (gap_pieces (gap_to e f.place)) (piece_of f ∷ pieces_from (At f.place) fs) (pieces_from (last_written (At f.place) fs) gs))
+    ap (λ (l : List Piece). gap_pieces (gap_to e f.place) ++ (piece_of f ∷ l)) (pieces_more (Some f.place) fs gs)
+    ∙ sym (append_assoc (gap_pieces (gap_to e f.place)) (piece_of f ∷ pieces_from (Some f.place) fs) (pieces_from (last_written (Some f.place) fs) gs))
 
-pub bytes_more : (e : Earlier) (fs gs : List Framed) → bytes_of e (fs ++ gs) ≡ bytes_of e fs ++ bytes_of (last_written e fs) gs
+pub bytes_more : (e : Option ℕ) (fs gs : List Framed) → bytes_of e (fs ++ gs) ≡ bytes_of e fs ++ bytes_of (last_written e fs) gs
 bytes_more e fs gs = ap (rendered record_bytes) (pieces_more e fs gs) ∙ rendered_append record_bytes (pieces_from e fs) (pieces_from (last_written e fs) gs)
 
-pub last_more : (e : Earlier) (fs gs : List Framed) → last_written e (fs ++ gs) ≡ last_written (last_written e fs) gs
+pub last_more : (e : Option ℕ) (fs gs : List Framed) → last_written e (fs ++ gs) ≡ last_written (last_written e fs) gs
 unfolding last_written
 last_more e [] gs = refl
-last_more e (f ∷ fs) gs = last_more (At f.place) fs gs
+last_more e (f ∷ fs) gs = last_more (Some f.place) fs gs
 
-pub bytes_none : (e : Earlier) → bytes_of e [] ≡ []
+pub bytes_none : (e : Option ℕ) → bytes_of e [] ≡ []
 unfolding rendered pieces_from
 bytes_none e = refl
 
@@ -54,11 +52,11 @@ pub laid_more : (out mid left : List ℕ) (before between after : Laid) (fs gs :
 laid_more out mid left before between after fs gs a b =
     let F = bytes_of before.earlier fs in
     let G = bytes_of (last_written before.earlier fs) gs in
-    let same : bytes_of between.earlier gs ≡ G = ap (λ (e : Earlier). bytes_of e gs) a.earlier in
+    let same : bytes_of between.earlier gs ≡ G = ap (λ (e : Option ℕ). bytes_of e gs) a.earlier in
     let both : bytes_of before.earlier (fs ++ gs) ≡ F ++ G = bytes_more before.earlier fs gs in
     record {
       size = omega (arith, a.size, b.size, ap length same, ap length both, length-append F G);
-      earlier = b.earlier ∙ ap (λ (e : Earlier). last_written e gs) a.earlier ∙ sym (last_more before.earlier fs gs);
+      earlier = b.earlier ∙ ap (λ (e : Option ℕ). last_written e gs) a.earlier ∙ sym (last_more before.earlier fs gs);
       stored =
           b.stored
           ∙ ap (sets mid between.size) same
@@ -82,7 +80,7 @@ then_same g h f k s t =
       out = ap₂ (λ (a b : List Framed). a ++ b) s.out ((t g.pile).out ∙ ap (λ (p : Pile). (k p).out) s.pile);
     }
 
-module _ (a b : Clock) (flush : Bool) where
+module _ (a b : Option ℕ) (flush : Bool) where
   -- nothing is ready: all stays
   pub idle_released : (p : Pile) → (release_of a b flush p.merger).answer ≡ NothingReady → Same (released a b flush p) (handed p [] [])
   idle_released p e =

@@ -1,5 +1,6 @@
 -- The journal of merged frames: apart, none refused, and each record reads back.
 -- Assumes nothing.
+use Rattle.std.proofs.Common.{Option, Some, None}
 use mathlib.Core.Path.{◌≡◌, sym, ap, ap₂, subst, ◌∙◌}
 use mathlib.Core.Bool.{Bool, true, false, cond, ◌&&◌}
 use mathlib.Core.List.{List, [], ◌∷◌}
@@ -13,13 +14,10 @@ use Rattle.bits.proofs.Alls.{all_at, all_map}
 use Rattle.journal_rules.specs.Gaps.{Framed, pieces_from, pieces_of, Spaced, last_of, AllFair, AllAllowed}
 use Rattle.journal_rules.specs.Record.{fair}
 use Rattle.journal_rules.specs.declared.Body.TheVariants.{Frame}
-use Rattle.journal_rules.specs.declared.Earlier.TheVariants.{Nothing}
 use Rattle.journal_rules.specs.declared.Figures.{Figures}
 use Rattle.journal_rules.proofs.Gapless.{unchanged, writable}
 use Rattle.merger_rules.specs.Offsets.{Rising}
 use Rattle.merger_rules.specs.Scripts.{started}
-use Rattle.merger_rules.specs.declared.Clock.{Clock}
-use Rattle.merger_rules.specs.declared.Clock.TheVariants.{At}
 use Rattle.merger_rules.proofs.Rising.{rising}
 use Rattle.merger_rules.proofs.Snaps.{snapped_le}
 use Rattle.recorder_rules.specs.Makings.{Trying, FairTrying}
@@ -45,7 +43,7 @@ module _ (try : Trying) (t : FairTrying try) (gs hs : List Got) (fine : All Fine
     whole : length f.bytes ≡ 48
     low : f.place + 384 ≤ most_offset
 
-  fits : (l : List Got) → All Fine l → (last : Clock) (o : Owned) (f : Framed) → OwnFrom try gs hs l last o f → Fits f
+  fits : (l : List Got) → All Fine l → (last : Option ℕ) (o : Owned) (f : Framed) → OwnFrom try gs hs l last o f → Fits f
   fits l a last o f c =
       let g = get_or l c.number no_got in
       let w : Fine g = all_at Fine no_got l c.number a c.sent in
@@ -55,11 +53,11 @@ module _ (try : Trying) (t : FairTrying try) (gs hs : List Got) (fine : All Fine
         low = omega (arith, c.place, c.moved, c.own, snapped_le last o.own, w.low);
       }
 
-  all_fit : (last : Clock) (os : List Owned) (fs : List Framed) → AsOwned try gs hs last os fs → All Fits fs
+  all_fit : (last : Option ℕ) (os : List Owned) (fs : List Framed) → AsOwned try gs hs last os fs → All Fits fs
   all_fit last [] [] a = tt
   all_fit last [] (f ∷ fs) a = absurd a
   all_fit last (o ∷ os) [] a = absurd a
-  all_fit last (o ∷ os) (f ∷ fs) a = (fits (cond o.release.alternate hs gs) (fine_of o.release.alternate) last o f a.0, all_fit (At o.release.figures.offset) os fs a.1)
+  all_fit last (o ∷ os) (f ∷ fs) a = (fits (cond o.release.alternate hs gs) (fine_of o.release.alternate) last o f a.0, all_fit (Some o.release.figures.offset) os fs a.1)
 
   all_fair : (fs : List Framed) → All Fits fs → AllFair fs
   all_fair [] a = tt
@@ -70,14 +68,14 @@ module _ (try : Trying) (t : FairTrying try) (gs hs : List Got) (fine : All Fine
   last_low o (f ∷ fs) h a = last_low f.place fs a.0.low a.1
 
   -- they are as far apart as the releases
-  spaced : (k : ℕ) (os : List Owned) (fs : List Framed) → Rising (At k) (releases_in os) → AsOwned try gs hs (At k) os fs → Spaced k fs
+  spaced : (k : ℕ) (os : List Owned) (fs : List Framed) → Rising (Some k) (releases_in os) → AsOwned try gs hs (Some k) os fs → Spaced k fs
   spaced k [] [] w a = tt
   spaced k [] (f ∷ fs) w a = absurd a
   spaced k (o ∷ os) [] w a = absurd a
   spaced k (o ∷ os) (f ∷ fs) w a =
       (omega (arith, a.0.place, w.0.0), subst (λ (n : ℕ). Spaced n fs) (sym a.0.place) (spaced o.release.figures.offset os fs w.1 a.1))
 
-  apart : (last : Clock) (os : List Owned) (fs : List Framed) → Rising last (releases_in os) → AsOwned try gs hs last os fs → Apart fs
+  apart : (last : Option ℕ) (os : List Owned) (fs : List Framed) → Rising last (releases_in os) → AsOwned try gs hs last os fs → Apart fs
   apart last os [] w a = tt
   apart last [] (f ∷ fs) w a = absurd a
   apart last (o ∷ os) (f ∷ fs) w a = subst (λ (n : ℕ). Spaced n fs) (sym a.0.place) (spaced o.release.figures.offset os fs w.1 a.1)
@@ -100,6 +98,6 @@ module _ (try : Trying) (t : FairTrying try) (gs hs : List Got) (fine : All Fine
         apart = w;
         frames = unchanged fs;
         allowed = allowed;
-        reads = all_read (pieces_of fs) (pieces_sized Nothing fs sized) allowed;
-        size = records_long Nothing fs sized;
+        reads = all_read (pieces_of fs) (pieces_sized None fs sized) allowed;
+        size = records_long None fs sized;
       }

@@ -1,7 +1,6 @@
 pub mod Takings
 pub mod Idling
 pub mod Handing
-pub mod Slots
 pub mod Owning
 pub mod Piling
 pub mod Releasing

@@ -1,5 +1,6 @@
 -- The numbers of the frames that are written, of each stream, rise: no frame comes twice.
 -- Assumes nothing.
+use Rattle.std.proofs.Common.{Option, Some}
 use mathlib.Core.Path.{◌≡◌, refl, sym, ap, subst, ◌∙◌}
 use mathlib.Core.Bool.{Bool, true, false, cond}
 use mathlib.Core.List.{List, [], ◌∷◌}
@@ -13,8 +14,6 @@ use Rattle.journal_rules.specs.Gaps.{Framed}
 use Rattle.merger_rules.specs.Merging.{View, snapped, push_of, release_of}
 use Rattle.merger_rules.specs.Scripts.{push, release, started, releases}
 use Rattle.merger_rules.specs.States.{Sound}
-use Rattle.merger_rules.specs.declared.Clock.{Clock}
-use Rattle.merger_rules.specs.declared.Clock.TheVariants.{At}
 use Rattle.merger_rules.specs.declared.Held.{Held}
 use Rattle.merger_rules.specs.declared.Release.{Release}
 use Rattle.merger_rules.proofs.SoundCalls.{start_sound, push_sound, release_sound}
@@ -113,7 +112,7 @@ module _ (try : Trying) where
     second_on true z y n k u h e = linked_next hs rh k h y e
     second_on false z y n k u h e = u
 
-    pub as_released : (os : List Owned) (fs : List Framed) (last : Clock) (x z m n : ℕ) → Linked gs x m → Linked hs z n → OwnRise x z os → AsOwned try gs hs last os fs → AsReleased try gs hs m n last (releases_in os) fs
+    pub as_released : (os : List Owned) (fs : List Framed) (last : Option ℕ) (x z m n : ℕ) → Linked gs x m → Linked hs z n → OwnRise x z os → AsOwned try gs hs last os fs → AsReleased try gs hs m n last (releases_in os) fs
     as_released [] [] last x z m n u w r a = tt
     as_released [] (f ∷ fs) last x z m n u w r a = absurd a
     as_released (o ∷ os) [] last x z m n u w r a = absurd a
@@ -125,8 +124,8 @@ module _ (try : Trying) where
         let later = linked_of b x z m n u w k c.sent (subst (λ (y : ℕ). cond b z x ≤ y) e r.0) in (
           c.place,
           record { number = k; later = later; sent = c.sent; envelope = c.envelope; figures = c.figures; offset = c.place ∙ c.moved ∙ ap (snapped last) e },
-          as_released os fs (At f.place) (cond b x (o.own + 384)) (cond b (o.own + 384) z) (cond b m (suc k)) (cond b (suc k) n) (first_on b x o.own m k u c.sent e) (second_on b z o.own n k w c.sent e) r.1
-              (subst (λ (y : ℕ). AsOwned try gs hs (At y) os fs) (sym c.place) a.1),
+          as_released os fs (Some f.place) (cond b x (o.own + 384)) (cond b (o.own + 384) z) (cond b m (suc k)) (cond b (suc k) n) (first_on b x o.own m k u c.sent e) (second_on b z o.own n k w c.sent e) r.1
+              (subst (λ (y : ℕ). AsOwned try gs hs (Some y) os fs) (sym c.place) a.1),
         )
 
     pub released_as_lem : (cs : List Deed) (fs : List Framed) → InOrder try false gs hs cs started → AsOwned try gs hs started.last (owned cs started) fs → AsReleased try gs hs 0 0 started.last (releases (calls_in cs) started) fs

@@ -1,36 +1,34 @@
 -- A frame that is handed in, also one that is refused and handed in again: it lies in its slot, and all others where they lay; and one that gives way.
 -- Assumes nothing.
+use Rattle.std.proofs.Common.{Option, Some, None, Result, Ok, Err}
 use mathlib.Core.Path.{◌≡◌, refl, sym, ap, subst, ◌∙◌}
 use mathlib.Core.Bool.{Bool, true, false, true≢false, cond}
 use mathlib.Core.List.{List, [], ◌∷◌}
-use Prim.Native.Nat.{ℕ, zero, suc, ◌+◌, ◌*◌, ◌≤◌, ◌<◌}
+use Prim.Native.Nat.{ℕ, zero, suc, ◌+◌, ◌≤◌, ◌<◌}
 use native.Mathlib.Omega.{arith}
 use borrow.Author.Tests.{leb-true}
-use lib.ListN.{length, get_or, set, length-set}
+use lib.ListN.{length, get_or, set, length-map}
 use lib.Seq.{get_or-set_same, get_or-set_other}
 use Rattle.bits.specs.Alls.{All}
 use Rattle.bits.specs.Sizes.{most_offset}
 use Rattle.bits.specs.declared.Refusal.TheVariants.{Positions}
 use Rattle.bits.proofs.Alls.{all_at}
 use Rattle.bits.proofs.Conds.{cond_cases, cond_eq}
-use Rattle.journal_rules.specs.declared.Tried.{Tried}
 use Rattle.merger_rules.specs.Counts.{one, in_place, pending_of}
 use Rattle.merger_rules.specs.Merging.{View, order_of, PushStep, push_of}
 use Rattle.merger_rules.specs.Scripts.{push}
-use Rattle.merger_rules.specs.declared.Clock.TheVariants.{Absent}
 use Rattle.merger_rules.specs.declared.Held.{Held}
 use Rattle.merger_rules.specs.declared.Keeping.{Keeping}
-use Rattle.merger_rules.specs.declared.Keeping.TheVariants.{Kept, Double, Late, Refused}
-use Rattle.merger_rules.specs.declared.Place.{Place}
-use Rattle.merger_rules.specs.declared.Place.TheVariants.{Empty, Holds}
+use Rattle.merger_rules.specs.declared.Keeping.TheVariants.{Kept, Double, Late}
 use Rattle.merger_rules.specs.declared.Position.{Position}
 use Rattle.merger_rules.proofs.Contrary.{contrary}
 use Rattle.merger_rules.proofs.Kept.{InPlace, Both, push_taken}
 use Rattle.merger_rules.proofs.Pushes.{push_cases, join_cases, open_cases}
 use Rattle.merger_rules.proofs.SoundCalls.{push_sound}
-use Rattle.merging_shelf.specs.Slots.{shelf_slots, envelope_in, put_in}
-use Rattle.merging_shelf.proofs.Shelving.{room_left}
-use Rattle.recorder_rules.specs.Makings.{Trying, untried}
+use Rattle.merging_shelf.specs.Slots.{shelf_slots, bit_at, used, taken_in, no_slot, slot_at}
+use Rattle.merging_shelf.specs.declared.Slot.{Slot}
+use Rattle.merging_shelf.proofs.Shelving.{bit_free, free_is, free_within, room_left, taken_laid}
+use Rattle.recorder_rules.specs.Makings.{Trying}
 use Rattle.sync_call_rules.specs.Calls.{Got}
 use Rattle.merging_rules.specs.declared.Answered.{Answered}
 use Rattle.merging_rules.specs.Accounts.{counted, slots_after}
@@ -38,11 +36,11 @@ use Rattle.merging_rules.specs.Piles.{called, Pile, Handed, handed, then, slot_f
 use Rattle.merging_rules.proofs.Takings.{Laid, laid, push_counted_lem}
 use Rattle.merging_rules.specs.Orders.{no_got, comes_again}
 use Rattle.merging_rules.specs.Tallies.{how_often, is_kept, is_double, is_late, CountsMore}
-use Rattle.merging_rules.proofs.Slots.{free_at, free_small, no_bit, put_same, put_other, put_long}
 use Rattle.merging_rules.proofs.Sending.{Fine}
 use Rattle.merging_rules.proofs.Piling.{frames_at, Lies, LieAll, Good, Fares, fares_then, fares_none}
 use Rattle.merging_rules.proofs.Releasing.{release_fares, flush_one}
 use Rattle.merging_rules.proofs.Yielding.{not_refused_rests, handed_once}
+use Rattle.bits.specs.declared.Refusal.{Refusal}
 
 -- a frame of a list
 pub record IsOf (l : List Got) (g : Got) : Type 0 where
@@ -51,11 +49,11 @@ pub record IsOf (l : List Got) (g : Got) : Type 0 where
   pub same : get_or l number no_got ≡ g
 
 -- a frame insists where it is to come again
-pub as_said : (d : Bool) (k : Keeping) → insists d k ≡ comes_again d k
-as_said d Kept = refl
-as_said d Double = refl
-as_said d Late = refl
-as_said d (Refused r) = refl
+pub as_said : (d : Bool) (k : Result Keeping Refusal) → insists d k ≡ comes_again d k
+as_said d (Ok Kept) = refl
+as_said d (Ok Double) = refl
+as_said d (Ok Late) = refl
+as_said d (Err r) = refl
 
 -- a push that is refused leaves the merger as it was
 pub again_still : (s : ℕ) (h : Held) (v : View) (d : Bool) → comes_again d (push_of s h v).answer ≡ true → (push_of s h v).next ≡ v
@@ -72,21 +70,21 @@ refused_still s h v d e = again_still s h v d (sym (as_said d (push_of s h v).an
 
 -- ---- what an answer adds to the counts
 
-often_one : (f : Keeping → Bool) (k : Keeping) (l : List Keeping) → l ≡ k ∷ [] → how_often f l ≡ cond (f k) 1 0 + 0
+often_one : (f : Result Keeping Refusal → Bool) (k : Result Keeping Refusal) (l : List (Result Keeping Refusal)) → l ≡ k ∷ [] → how_often f l ≡ cond (f k) 1 0 + 0
 unfolding how_often
 often_one f k l e = ap (how_often f) e
 
-record Adds (k : Keeping) (l : List Keeping) (a : Answered) : Type 0 where
+record Adds (k : Result Keeping Refusal) (l : List (Result Keeping Refusal)) (a : Answered) : Type 0 where
   kept : (counted k a).kept ≡ a.kept + how_often is_kept l
   late : (counted k a).late ≡ a.late + how_often is_late l
   double : (counted k a).double ≡ a.double + how_often is_double l
   refused : (counted k a).refused ≡ a.refused + 0
 
-adds : (k : Keeping) (l : List Keeping) (a : Answered) → l ≡ k ∷ [] → insists true k ≡ false → Adds k l a
-adds Kept l a e n = record { kept = omega (arith, often_one is_kept Kept l e); late = omega (arith, often_one is_late Kept l e); double = omega (arith, often_one is_double Kept l e); refused = omega arith }
-adds Double l a e n = record { kept = omega (arith, often_one is_kept Double l e); late = omega (arith, often_one is_late Double l e); double = omega (arith, often_one is_double Double l e); refused = omega arith }
-adds Late l a e n = record { kept = omega (arith, often_one is_kept Late l e); late = omega (arith, often_one is_late Late l e); double = omega (arith, often_one is_double Late l e); refused = omega arith }
-adds (Refused r) l a e n = absurd (true≢false n)
+adds : (k : Result Keeping Refusal) (l : List (Result Keeping Refusal)) (a : Answered) → l ≡ k ∷ [] → insists true k ≡ false → Adds k l a
+adds (Ok Kept) l a e n = record { kept = omega (arith, often_one is_kept (Ok Kept) l e); late = omega (arith, often_one is_late (Ok Kept) l e); double = omega (arith, often_one is_double (Ok Kept) l e); refused = omega arith }
+adds (Ok Double) l a e n = record { kept = omega (arith, often_one is_kept (Ok Double) l e); late = omega (arith, often_one is_late (Ok Double) l e); double = omega (arith, often_one is_double (Ok Double) l e); refused = omega arith }
+adds (Ok Late) l a e n = record { kept = omega (arith, often_one is_kept (Ok Late) l e); late = omega (arith, often_one is_late (Ok Late) l e); double = omega (arith, often_one is_double (Ok Late) l e); refused = omega arith }
+adds (Err r) l a e n = absurd (true≢false n)
 
 module _ (try : Trying) (gs hs : List Got) (fine : All Fine gs) (also : All Fine hs) where
   abbrev frames : ℕ → List Got
@@ -101,85 +99,87 @@ module _ (try : Trying) (gs hs : List Got) (fine : All Fine gs) (also : All Fine
 
   -- ---- what lies in the other slots
 
-  module _ (slot : ℕ) (t : Tried) (envelope : List ℕ) (tried : List Tried) (envelopes : List ℕ) (long : length envelope ≡ 48) (room : 48 * slot + 48 ≤ length envelopes) where
-    other_lies : (s : ℕ) (h : Held) → (h.number ≡ slot → ⊥) → Lies try gs hs tried envelopes s h → Lies try gs hs (set tried slot t) (put_in slot envelope envelopes) s h
+  module _ (slot : ℕ) (t : Slot) (slots : List Slot) where
+    there : (n : ℕ) → (n ≡ slot → ⊥) → slot_at (set slots slot t) n ≡ slot_at slots n
+    there n o = get_or-set_other slots slot n t no_slot o
+
+    other_lies : (s : ℕ) (h : Held) → (h.number ≡ slot → ⊥) → Lies try gs hs slots s h → Lies try gs hs (set slots slot t) s h
     other_lies s h o l =
-        record { number = l.number; sent = l.sent; figures = l.figures; said = get_or-set_other tried slot h.number t (untried []) o ∙ l.said; envelope = put_other slot envelope envelopes long room h.number o ∙ l.envelope }
+        record { number = l.number; sent = l.sent; figures = l.figures; said = ap (λ (x : Slot). x.tried) (there h.number o) ∙ l.said; envelope = ap (λ (x : Slot). x.envelope) (there h.number o) ∙ l.envelope }
 
-    other_place : (s : ℕ) (q : Place) → in_place slot q ≡ 0 → InPlace (Lies try gs hs tried envelopes) s q → InPlace (Lies try gs hs (set tried slot t) (put_in slot envelope envelopes)) s q
-    other_place s Empty z l = tt
-    other_place s (Holds h) z l = other_lies s h (λ e. let y : one slot h.number ≡ 1 = cond_eq {A = ℕ} h.number slot 1 0 e in absurd (omega arith)) l
+    other_place : (s : ℕ) (q : Option Held) → in_place slot q ≡ 0 → InPlace (Lies try gs hs slots) s q → InPlace (Lies try gs hs (set slots slot t)) s q
+    other_place s None z l = tt
+    other_place s (Some h) z l = other_lies s h (λ e. let y : one slot h.number ≡ 1 = cond_eq {A = ℕ} h.number slot 1 0 e in absurd (omega arith)) l
 
-    others_lie : (l : List Position) → pending_of slot l ≡ 0 → All (Both (Lies try gs hs tried envelopes)) l → All (Both (Lies try gs hs (set tried slot t) (put_in slot envelope envelopes))) l
+    others_lie : (l : List Position) → pending_of slot l ≡ 0 → All (Both (Lies try gs hs slots)) l → All (Both (Lies try gs hs (set slots slot t))) l
     unfolding pending_of
     others_lie [] z a = tt
     others_lie (p ∷ ps) z a = ((other_place 0 p.primary (omega arith) a.0.0, other_place 1 p.alternate (omega arith) a.0.1), others_lie ps (omega arith) a.1)
 
-    new_lies : (s : ℕ) (g : Got) → IsOf (frames s) g → (h : Held) → h.figures ≡ g.head → h.number ≡ slot → slot < length tried → t ≡ try g.envelope → envelope ≡ g.envelope
-        → Lies try gs hs (set tried slot t) (put_in slot envelope envelopes) s h
+    new_lies : (s : ℕ) (g : Got) → IsOf (frames s) g → (h : Held) → h.figures ≡ g.head → h.number ≡ slot → slot < length slots → t.tried ≡ try g.envelope → t.envelope ≡ g.envelope
+        → Lies try gs hs (set slots slot t) s h
     new_lies s g i h f e w a b =
+        let here : slot_at (set slots slot t) h.number ≡ t = ap (slot_at (set slots slot t)) e ∙ get_or-set_same slots slot t no_slot w in
         record {
           number = i.number;
           sent = i.sent;
           figures = f ∙ ap (λ (k : Got). k.head) (sym i.same);
-          said = ap (λ (n : ℕ). get_or (set tried slot t) n (untried [])) e ∙ get_or-set_same tried slot t (untried []) w ∙ a ∙ ap (λ (k : Got). try k.envelope) (sym i.same);
-          envelope = ap (λ (n : ℕ). envelope_in n (put_in slot envelope envelopes)) e ∙ put_same slot envelope envelopes long room ∙ b ∙ ap (λ (k : Got). k.envelope) (sym i.same);
+          said = ap (λ (x : Slot). x.tried) here ∙ a ∙ ap (λ (k : Got). try k.envelope) (sym i.same);
+          envelope = ap (λ (x : Slot). x.envelope) here ∙ b ∙ ap (λ (k : Got). k.envelope) (sym i.same);
         }
 
   -- ---- a frame, handed in once
 
   module _ (s : ℕ) (g : Got) (i : IsOf (frames s) g) (p : Pile) (w : Good try gs hs p) where
     abbrev taken : List Bool
-    taken = p.shelf.taken
+    taken = taken_in p.shelf
 
     abbrev held : Held
     held = held_for try g p
 
     small : slot_for p < shelf_slots
-    small = free_small taken (room_left taken p.merger.pending w.shelved w.sound.few)
+    small = free_within taken (room_left taken p.merger.pending w.shelved w.sound.few)
 
     free : get_or taken (slot_for p) false ≡ false
-    free = free_at taken
+    free = free_is taken
 
     not_there : pending_of (slot_for p) p.merger.pending ≡ 0
-    not_there = sym (w.shelved (slot_for p)) ∙ no_bit taken (slot_for p) free
+    not_there = sym (w.shelved (slot_for p)) ∙ bit_free taken (slot_for p) free
 
     -- the slots, and what is counted
-    in_slots : (k : Keeping) → (push_for try s g p).answer ≡ k → Laid taken (push_for try s g p).next.pending k (slots_after k (slot_for p) taken)
+    in_slots : (k : Result Keeping Refusal) → (push_for try s g p).answer ≡ k → Laid taken (push_for try s g p).next.pending k (slots_after k (slot_for p) taken)
     in_slots k e = laid taken w.slots p.merger w.shelved s held small free k e
 
     -- one that is not kept leaves the shelf as it was
-    shelf_stays : ((push_for try s g p).answer ≡ Kept → ⊥) → LieAll try gs hs p.shelf.tried p.shelf.envelopes (push_for try s g p).next
-    shelf_stays n = push_taken (Lies try gs hs p.shelf.tried p.shelf.envelopes) s held p.merger (λ e. absurd (n e)) w.lie
+    shelf_stays : ((push_for try s g p).answer ≡ Ok Kept → ⊥) → LieAll try gs hs p.shelf.slots (push_for try s g p).next
+    shelf_stays n = push_taken (Lies try gs hs p.shelf.slots) s held p.merger (λ e. absurd (n e)) w.lie
 
-    laid_good : (k : Keeping) → (push_for try s g p).answer ≡ k
+    laid_good : (k : Result Keeping Refusal) → (push_for try s g p).answer ≡ k
         → Good try gs hs (record { merger = (push_for try s g p).next; shelf = laid_on k (slot_for p) (try g.envelope) g.envelope p.shelf; answered = counted k p.answered; gone = p.gone })
-    laid_good Kept e =
-        let l = in_slots Kept e in
-        let k = small in
-        let room : 48 * slot_for p + 48 ≤ length p.shelf.envelopes = omega (arith, w.room) in
-        let tried = p.shelf.tried in
-        let envelopes = p.shelf.envelopes in
+    laid_good (Ok Kept) e =
+        let l = in_slots (Ok Kept) e in
+        let slots = p.shelf.slots in
+        let new : Slot = record { taken = true; tried = try g.envelope; envelope = g.envelope } in
+        let now : taken_in (record { slots = set slots (slot_for p) new }) ≡ set taken (slot_for p) true = taken_laid slots (slot_for p) (try g.envelope) g.envelope in
+        let within : slot_for p < length slots = omega (arith, small, w.slots, length-map slots (λ (x : Slot). x.taken)) in
         record {
           sound = push_sound s held p.merger w.sound;
-          slots = l.slots;
-          tried = length-set tried (slot_for p) (try g.envelope) ∙ w.tried;
-          room = put_long (slot_for p) g.envelope envelopes (is_fine s g i).whole room ∙ w.room;
-          shelved = l.shelved;
-          balance = omega (arith, w.balance, l.more);
-          lie = push_taken (Lies try gs hs (set tried (slot_for p) (try g.envelope)) (put_in (slot_for p) g.envelope envelopes)) s held p.merger
-              (λ _. new_lies (slot_for p) (try g.envelope) g.envelope tried envelopes (is_fine s g i).whole room s g i held refl refl (omega (arith, w.tried)) refl refl)
-              (others_lie (slot_for p) (try g.envelope) g.envelope tried envelopes (is_fine s g i).whole room p.merger.pending not_there w.lie);
+          slots = ap length now ∙ l.slots;
+          shelved = λ x. ap (λ (t : List Bool). bit_at t x) now ∙ l.shelved x;
+          balance = omega (arith, w.balance, l.more, ap used now);
+          lie = push_taken (Lies try gs hs (set slots (slot_for p) new)) s held p.merger
+              (λ _. new_lies (slot_for p) new slots s g i held refl refl within refl refl)
+              (others_lie (slot_for p) new slots p.merger.pending not_there w.lie);
         }
-    laid_good Double e =
-        let l = in_slots Double e in
-        record { sound = push_sound s held p.merger w.sound; slots = w.slots; tried = w.tried; room = w.room; shelved = l.shelved; balance = w.balance; lie = shelf_stays (λ f. contrary cc) }
-    laid_good Late e =
-        let l = in_slots Late e in
-        record { sound = push_sound s held p.merger w.sound; slots = w.slots; tried = w.tried; room = w.room; shelved = l.shelved; balance = w.balance; lie = shelf_stays (λ f. contrary cc) }
-    laid_good (Refused r) e =
-        let l = in_slots (Refused r) e in
-        record { sound = push_sound s held p.merger w.sound; slots = w.slots; tried = w.tried; room = w.room; shelved = l.shelved; balance = w.balance; lie = shelf_stays (λ f. contrary cc) }
+    laid_good (Ok Double) e =
+        let l = in_slots (Ok Double) e in
+        record { sound = push_sound s held p.merger w.sound; slots = w.slots; shelved = l.shelved; balance = w.balance; lie = shelf_stays (λ f. contrary cc) }
+    laid_good (Ok Late) e =
+        let l = in_slots (Ok Late) e in
+        record { sound = push_sound s held p.merger w.sound; slots = w.slots; shelved = l.shelved; balance = w.balance; lie = shelf_stays (λ f. contrary cc) }
+    laid_good (Err r) e =
+        let l = in_slots (Err r) e in
+        record { sound = push_sound s held p.merger w.sound; slots = w.slots; shelved = l.shelved; balance = w.balance; lie = shelf_stays (λ f. contrary cc) }
 
     -- it is counted, where it is not refused
     counts_one : insists true (push_for try s g p).answer ≡ false → CountsMore (called (push s held) ∷ []) p (offered_once try s g p).pile
@@ -204,11 +204,11 @@ module _ (try : Trying) (gs hs : List Got) (fine : All Fine gs) (also : All Fine
     let_go_fares : Fares try gs hs 1 p (let_go try s g p)
     unfolding how_often
     let_go_fares = record {
-      good = record { sound = w.sound; slots = w.slots; tried = w.tried; room = w.room; shelved = w.shelved; balance = w.balance; lie = w.lie };
+      good = record { sound = w.sound; slots = w.slots; shelved = w.shelved; balance = w.balance; lie = w.lie };
       follows = refl;
       out = tt;
       written = omega arith;
-      told = (push_counted_lem (Refused Positions) p.answered).0;
+      told = (push_counted_lem (Err Positions) p.answered).0;
       counts = record { kept = omega arith; late = omega arith; double = omega arith; refused = omega arith; handed_on = omega arith; passed_over = omega arith };
     }
 
@@ -219,7 +219,7 @@ module _ (try : Trying) (gs hs : List Got) (fine : All Fine gs) (also : All Fine
   refused_counts s g p e =
       let k = (push_for try s g p).answer in
       let none : cond (comes_again (decodes try g) k) [] (k ∷ []) ≡ [] = ap (λ (b : Bool). cond b [] (k ∷ [])) (sym (as_said (decodes try g) k) ∙ e) in
-      let often : (f : Keeping → Bool) → how_often f (cond (comes_again (decodes try g) k) [] (k ∷ [])) ≡ 0 = λ f. ap (how_often f) none in
+      let often : (f : Result Keeping Refusal → Bool) → how_often f (cond (comes_again (decodes try g) k) [] (k ∷ [])) ≡ 0 = λ f. ap (how_often f) none in
       record { kept = omega (arith, often is_kept); late = omega (arith, often is_late); double = omega (arith, often is_double); refused = omega arith; handed_on = omega arith; passed_over = omega arith }
 
   -- a push is not refused where fewer than 16 positions wait
@@ -233,10 +233,10 @@ module _ (try : Trying) (gs hs : List Got) (fine : All Fine gs) (also : All Fine
       Q y = insists true y.answer ≡ false
 
   -- so it is not refused again once a position was released
-  pub not_again : (s : ℕ) → s ≤ 1 → (g : Got) → IsOf (frames s) g → (p : Pile) → Good try gs hs p → insists true (push_for try s g (released Absent Absent true p).pile).answer ≡ false
+  pub not_again : (s : ℕ) → s ≤ 1 → (g : Got) → IsOf (frames s) g → (p : Pile) → Good try gs hs p → insists true (push_for try s g (released None None true p).pile).answer ≡ false
   not_again s t g i p w =
-      let q = (released Absent Absent true p).pile in
-      not_refused s (held_for try g q) q.merger t (omega (arith, (is_fine s g i).low)) (omega (arith, flush_one Absent Absent p.merger.pending p.merger.last, w.sound.few))
+      let q = (released None None true p).pile in
+      not_refused s (held_for try g q) q.merger t (omega (arith, (is_fine s g i).low)) (omega (arith, flush_one None None p.merger.pending p.merger.last, w.sound.few))
 
   pub offered_fares : (s : ℕ) → s ≤ 1 → (g : Got) → IsOf (frames s) g → (p : Pile) → Good try gs hs p → Fares try gs hs 1 p (offered try s g p)
   offered_fares s t g i p w =
@@ -247,12 +247,12 @@ module _ (try : Trying) (gs hs : List Got) (fine : All Fine gs) (also : All Fine
       first : Handed
       first = handed p [] (called (push s (held_for try g p)) ∷ [])
 
-      again : insists (decodes try g) (push_for try s g p).answer ≡ true → Fares try gs hs 1 p (then (then first (released Absent Absent true)) (offered_once try s g))
+      again : insists (decodes try g) (push_for try s g p).answer ≡ true → Fares try gs hs 1 p (then (then first (released None None true)) (offered_once try s g))
       again e =
-          let q = (released Absent Absent true p).pile in
+          let q = (released None None true p).pile in
           let refused : Fares try gs hs 0 p first = record { good = w; follows = refused_still s (held_for try g p) p.merger (decodes try g) e; out = tt; written = omega arith; told = omega arith; counts = refused_counts s g p e } in
-          let out = release_fares try gs hs Absent Absent true p w in
-          fares_then try gs hs 0 1 1 refl p (then first (released Absent Absent true)) (offered_once try s g) (fares_then try gs hs 0 0 0 refl p first (released Absent Absent true) refused out) (once_fares s g i q out.good (not_again s t g i p w))
+          let out = release_fares try gs hs None None true p w in
+          fares_then try gs hs 0 1 1 refl p (then first (released None None true)) (offered_once try s g) (fares_then try gs hs 0 0 0 refl p first (released None None true) refused out) (once_fares s g i q out.good (not_again s t g i p w))
 
   -- ---- frames one after the other
 

@@ -1,5 +1,6 @@
 -- All frames of both recordings are handed in, each stream's in their order.
 -- Assumes nothing.
+use Rattle.std.proofs.Common.{Option, None}
 use mathlib.Core.Path.{◌≡◌, refl, sym, ap, subst, ◌∙◌}
 use mathlib.Core.Bool.{Bool, true, false, true≢false}
 use mathlib.Core.List.{List, [], ◌∷◌, ◌++◌, append_assoc, append-nil}
@@ -10,8 +11,6 @@ use Rattle.bits.specs.Alls.{All}
 use Rattle.bits.proofs.Conds.{cond_cases}
 use Rattle.merger_rules.specs.Merging.{View, push_of, release_of}
 use Rattle.merger_rules.specs.Scripts.{push, release, started}
-use Rattle.merger_rules.specs.declared.Clock.{Clock}
-use Rattle.merger_rules.specs.declared.Clock.TheVariants.{Absent}
 use Rattle.merger_rules.specs.declared.Held.{Held}
 use Rattle.recorder_rules.specs.Calls.{frames_for}
 use Rattle.recorder_rules.specs.Makings.{Trying}
@@ -69,16 +68,16 @@ module _ (try : Trying) where
   way_given (suc s) g h v gs hs rest f c k r = ((f, c), k, r)
 
   -- the release before its time
-  release_on : (s : ℕ) (g : Got) (a b : Clock) (v : View) (gs hs : List Got) (rest : List Deed) → First false s g gs hs rest (release_of a b true v).next → First true s g gs hs (called (release a b true) ∷ rest) v
+  release_on : (s : ℕ) (g : Got) (a b : Option ℕ) (v : View) (gs hs : List Got) (rest : List Deed) → First false s g gs hs rest (release_of a b true v).next → First true s g gs hs (called (release a b true) ∷ rest) v
   release_on zero g a b v gs hs rest r = (tt, r)
   release_on (suc s) g a b v gs hs rest r = (tt, r)
 
-  times_on : (n : ℕ) (a b : Clock) (p : Pile) (gs hs : List Got) (rest : List Deed) → InOrder try false gs hs rest (released_times n a b false p).pile.merger → InOrder try false gs hs ((released_times n a b false p).deeds ++ rest) p.merger
+  times_on : (n : ℕ) (a b : Option ℕ) (p : Pile) (gs hs : List Got) (rest : List Deed) → InOrder try false gs hs rest (released_times n a b false p).pile.merger → InOrder try false gs hs ((released_times n a b false p).deeds ++ rest) p.merger
   unfolding released_times
   times_on zero a b p gs hs rest r = r
   times_on (suc n) a b p gs hs rest r = times_on n a b (released a b false p).pile gs hs rest r
 
-  flush_on : (n : ℕ) (a b : Clock) (p : Pile) → InOrder try false [] [] (released_times n a b true p).deeds p.merger
+  flush_on : (n : ℕ) (a b : Option ℕ) (p : Pile) → InOrder try false [] [] (released_times n a b true p).deeds p.merger
   unfolding released_times
   flush_on zero a b p = (refl, refl)
   flush_on (suc n) a b p = ((refl, refl), flush_on n a b (released a b true p).pile)
@@ -90,9 +89,9 @@ module _ (try : Trying) where
         → InOrder try false ks ls rest (offered try s g p).pile.merger → First false s g ks ls ((offered try s g p).deeds ++ rest) p.merger
     offered_first s t g i p w ks ls rest =
         cond_cases (λ (h : Handed). InOrder try false ks ls rest h.pile.merger → First false s g ks ls (h.deeds ++ rest) p.merger) (insists (decodes try g) (push_for try s g p).answer) _ _
-        (λ e r. push_again s g (held_for try g p) p.merger ks ls (called (release Absent Absent true) ∷ called (push s (held_for try g q)) ∷ rest) refl refl e
-        (subst (First true s g ks ls (called (release Absent Absent true) ∷ called (push s (held_for try g q)) ∷ rest)) (sym (refused_still s (held_for try g p) p.merger (decodes try g) e))
-        (release_on s g Absent Absent p.merger ks ls (called (push s (held_for try g q)) ∷ rest)
+        (λ e r. push_again s g (held_for try g p) p.merger ks ls (called (release None None true) ∷ called (push s (held_for try g q)) ∷ rest) refl refl e
+        (subst (First true s g ks ls (called (release None None true) ∷ called (push s (held_for try g q)) ∷ rest)) (sym (refused_still s (held_for try g p) p.merger (decodes try g) e))
+        (release_on s g None None p.merger ks ls (called (push s (held_for try g q)) ∷ rest)
         (push_done s g (held_for try g q) q.merger ks ls rest refl refl (not_refused_rests (decodes try g) (push_for try s g q).answer (not_again try gs hs fine also s t g i p w))
         (decodes_on (held_for try g q) q.merger (push_for try s g q).next (insists_decodes (decodes try g) (push_for try s g p).answer e)) r))))
         (λ n. cond_cases (λ (h : Handed). InOrder try false ks ls rest h.pile.merger → First false s g ks ls (h.deeds ++ rest) p.merger) (gives_way try s g p) _ _
@@ -100,7 +99,7 @@ module _ (try : Trying) where
         (λ k r. push_done s g (held_for try g p) p.merger ks ls rest refl refl n (leaves_one s (held_for try g p) p.merger k) r))
       where
         q : Pile
-        q = (released Absent Absent true p).pile
+        q = (released None None true p).pile
 
     put_ahead : (s : ℕ) (g : Got) (l ks ls : List Got) (cs ds : List Deed) (v w : View) → ((ks ls : List Got) → InOrder try false ks ls ds w → First false s g ks ls cs v) → Ahead s l ks ls ds w → Ahead s (g ∷ l) ks ls cs v
     put_ahead zero g l ks ls cs ds v w f r = f (l ++ ks) ls r
@@ -131,7 +130,7 @@ module _ (try : Trying) (xs ys : List Input) (dx : Dibits xs) (dy : Dibits ys) w
   fine_y = sent_fine ys dy
 
   -- frames of both, and then releases
-  turn_ahead : (l m : List Got) → All (IsOf (sent_for xs)) l → All (IsOf (sent_for ys)) m → (p : Pile) → Good try (sent_for xs) (sent_for ys) p → (ks ls : List Got) (rest : List Deed) (n : ℕ) (c d : Clock)
+  turn_ahead : (l m : List Got) → All (IsOf (sent_for xs)) l → All (IsOf (sent_for ys)) m → (p : Pile) → Good try (sent_for xs) (sent_for ys) p → (ks ls : List Got) (rest : List Deed) (n : ℕ) (c d : Option ℕ)
       → let two = then (offered_all try 0 l p) (offered_all try 1 m) in
       let last = released_times n c d false two.pile in
       InOrder try false ks ls rest last.pile.merger → InOrder try false (l ++ ks) (m ++ ls) ((two.deeds ++ last.deeds) ++ rest) p.merger
@@ -177,8 +176,8 @@ module _ (try : Trying) (xs ys : List Input) (dx : Dibits xs) (dy : Dibits ys) w
   in_order =
       let n = max (length xs) (length ys) in
       let w = walk_to try xs ys dx dy n in
-      let flush = released_times 16 Absent Absent true w.both.pile in
+      let flush = released_times 16 None None true w.both.pile in
       let all : (zs : List Input) → length zs ≤ n → frames_for (up_to n zs) ++ [] ≡ sent_for zs = λ zs h. append-nil (frames_for (up_to n zs)) ∙ ap frames_for (all_of try xs ys dx dy zs n h) in
       subst (λ (l : List Got). InOrder try false l (sent_for ys) (w.deeds ++ flush.deeds) started) (all xs (omega arith))
       (subst (λ (l : List Got). InOrder try false (frames_for (up_to n xs) ++ []) l (w.deeds ++ flush.deeds) started) (all ys (omega arith))
-      (walk_ahead n [] [] flush.deeds (flush_on try 16 Absent Absent w.both.pile)))
+      (walk_ahead n [] [] flush.deeds (flush_on try 16 None None w.both.pile)))

@@ -1,5 +1,6 @@
 -- The frames that a script releases, with their own offsets; and the frames that are written for them.
 -- Assumes nothing.
+use Rattle.std.proofs.Common.{Option, Some, None}
 use mathlib.Core.Path.{◌≡◌, refl, sym, ap, ◌∙◌}
 use mathlib.Core.Bool.{cond}
 use mathlib.Core.List.{List, [], ◌∷◌, ◌++◌, append_assoc}
@@ -9,10 +10,7 @@ use Rattle.journal_rules.specs.Gaps.{Framed}
 use Rattle.merger_rules.specs.Merging.{View, choice_of, snapped, push_of, release_of}
 use Rattle.merger_rules.specs.Offsets.{Advances}
 use Rattle.merger_rules.specs.Scripts.{push, release, given, releases, left}
-use Rattle.merger_rules.specs.declared.Choice.{Choice}
-use Rattle.merger_rules.specs.declared.Choice.TheVariants.{Neither, Chosen}
-use Rattle.merger_rules.specs.declared.Clock.{Clock}
-use Rattle.merger_rules.specs.declared.Clock.TheVariants.{At}
+use Rattle.merger_rules.specs.declared.Chosen.{Chosen}
 use Rattle.merger_rules.specs.declared.Position.{Position}
 use Rattle.merger_rules.specs.declared.Release.{Release}
 use Rattle.merger_rules.specs.declared.Released.{Released}
@@ -29,15 +27,15 @@ pub record Owned : Type 0 where
 
 -- ---- of a script
 
-abbrev pub chosen_at : List Position → Choice
-chosen_at [] = Neither
+abbrev pub chosen_at : List Position → Option Chosen
+chosen_at [] = None
 chosen_at (p ∷ ps) = choice_of p
 
-abbrev pub own_of : Choice → ℕ
-own_of Neither = 0
-own_of (Chosen h b) = h.figures.offset
+abbrev pub own_of : Option Chosen → ℕ
+own_of None = 0
+own_of (Some c) = c.frame.figures.offset
 
-abbrev pub own_given : Released → Choice → List Owned
+abbrev pub own_given : Released → Option Chosen → List Owned
 own_given (Frame r) c = record { own = own_of c; release = r } ∷ []
 own_given PassedOver c = []
 own_given NothingReady c = []
@@ -62,7 +60,7 @@ abbrev pub releases_in : List Owned → List Release
 releases_in [] = []
 releases_in (o ∷ os) = o.release ∷ releases_in os
 
-given_in : (a : Released) (c : Choice) (os : List Owned) → releases_in (own_given a c ++ os) ≡ given a ++ releases_in os
+given_in : (a : Released) (c : Option Chosen) (os : List Owned) → releases_in (own_given a c ++ os) ≡ given a ++ releases_in os
 given_in (Frame r) c os = refl
 given_in PassedOver c os = refl
 given_in NothingReady c os = refl
@@ -76,18 +74,18 @@ releases_in_lem (called (release a b flush) ∷ cs) v =
     given_in y.answer (chosen_at v.pending) (owned cs y.next) ∙ ap (λ (l : List Release). given y.answer ++ l) (releases_in_lem cs y.next)
 
 -- what was released last
-abbrev pub last_by : Clock → List Owned → Clock
+abbrev pub last_by : Option ℕ → List Owned → Option ℕ
 last_by last [] = last
-last_by last (o ∷ os) = last_by (At o.release.figures.offset) os
+last_by last (o ∷ os) = last_by (Some o.release.figures.offset) os
 
-last_given : (a : Released) (c : Choice) (last next : Clock) (os : List Owned) → Advances last a next → last_by next os ≡ last_by last (own_given a c ++ os)
-last_given (Frame r) c last next os w = ap (λ (k : Clock). last_by k os) w.1
-last_given PassedOver c last next os w = ap (λ (k : Clock). last_by k os) w
-last_given NothingReady c last next os w = ap (λ (k : Clock). last_by k os) w
+last_given : (a : Released) (c : Option Chosen) (last next : Option ℕ) (os : List Owned) → Advances last a next → last_by next os ≡ last_by last (own_given a c ++ os)
+last_given (Frame r) c last next os w = ap (λ (k : Option ℕ). last_by k os) w.1
+last_given PassedOver c last next os w = ap (λ (k : Option ℕ). last_by k os) w
+last_given NothingReady c last next os w = ap (λ (k : Option ℕ). last_by k os) w
 
 pub left_last : (cs : List Deed) (v : View) → (left (calls_in cs) v).last ≡ last_by v.last (owned cs v)
 left_last [] v = refl
-left_last (called (push s h) ∷ cs) v = left_last cs (push_of s h v).next ∙ ap (λ (k : Clock). last_by k (owned cs (push_of s h v).next)) (push_last s h v)
+left_last (called (push s h) ∷ cs) v = left_last cs (push_of s h v).next ∙ ap (λ (k : Option ℕ). last_by k (owned cs (push_of s h v).next)) (push_last s h v)
 left_last (gave_way s h ∷ cs) v = left_last cs v
 left_last (called (release a b flush) ∷ cs) v =
     let y = release_of a b flush v in
@@ -96,7 +94,7 @@ left_last (called (release a b flush) ∷ cs) v =
 -- ---- what is written for them
 
 module _ (try : Trying) (gs hs : List Got) where
-  pub record OwnFrom (l : List Got) (last : Clock) (o : Owned) (f : Framed) : Type 0 where
+  pub record OwnFrom (l : List Got) (last : Option ℕ) (o : Owned) (f : Framed) : Type 0 where
     pub number : ℕ
     pub sent : number < length l
     pub envelope : f.bytes ≡ (get_or l number no_got).envelope
@@ -105,14 +103,14 @@ module _ (try : Trying) (gs hs : List Got) where
     pub moved : o.release.figures.offset ≡ snapped last o.own
     pub place : f.place ≡ o.release.figures.offset
 
-  abbrev pub AsOwned : Clock → List Owned → List Framed → Type 0
+  abbrev pub AsOwned : Option ℕ → List Owned → List Framed → Type 0
   AsOwned last [] [] = Unit {0}
   AsOwned last [] (f ∷ fs) = ⊥
   AsOwned last (o ∷ os) [] = ⊥
-  AsOwned last (o ∷ os) (f ∷ fs) = OwnFrom (cond o.release.alternate hs gs) last o f × AsOwned (At o.release.figures.offset) os fs
+  AsOwned last (o ∷ os) (f ∷ fs) = OwnFrom (cond o.release.alternate hs gs) last o f × AsOwned (Some o.release.figures.offset) os fs
 
-  pub out_append : (last : Clock) (os ps : List Owned) (fs ts : List Framed) → AsOwned last os fs → AsOwned (last_by last os) ps ts → AsOwned last (os ++ ps) (fs ++ ts)
+  pub out_append : (last : Option ℕ) (os ps : List Owned) (fs ts : List Framed) → AsOwned last os fs → AsOwned (last_by last os) ps ts → AsOwned last (os ++ ps) (fs ++ ts)
   out_append last [] ps [] ts a b = b
   out_append last [] ps (f ∷ fs) ts a b = absurd a
   out_append last (o ∷ os) ps [] ts a b = absurd a
-  out_append last (o ∷ os) ps (f ∷ fs) ts a b = (a.0, out_append (At o.release.figures.offset) os ps fs ts a.1 b)
+  out_append last (o ∷ os) ps (f ∷ fs) ts a b = (a.0, out_append (Some o.release.figures.offset) os ps fs ts a.1 b)

@@ -1,32 +1,33 @@
 -- What holds of a pile between calls, and of a call; and of a call after another.
 -- Assumes nothing.
+use Rattle.std.proofs.Common.{Option, Result}
 use mathlib.Core.Path.{◌≡◌, refl, sym, ap, subst, ◌∙◌}
 use mathlib.Core.Bool.{Bool, true, false, cond}
 use mathlib.Core.List.{List, [], ◌∷◌, ◌++◌}
 use Prim.Native.Nat.{ℕ, zero, suc, ◌+◌, ◌<◌}
 use native.Mathlib.Omega.{arith}
-use lib.ListN.{length, get_or, replicate, length-append, length-replicate}
+use lib.ListN.{length, get_or, length-append}
 use Rattle.bits.specs.Alls.{All}
-use Rattle.journal_rules.specs.declared.Tried.{Tried}
 use Rattle.merger_rules.specs.Counts.{pending_of}
 use Rattle.merger_rules.specs.Merging.{View, push_of, release_of}
 use Rattle.merger_rules.specs.Scripts.{push, release, left}
 use Rattle.merger_rules.specs.States.{Sound}
-use Rattle.merger_rules.specs.declared.Clock.{Clock}
 use Rattle.merger_rules.specs.declared.Held.{Held}
 use Rattle.merger_rules.specs.declared.Keeping.{Keeping}
 use Rattle.merger_rules.specs.declared.Released.{Released}
 use Rattle.merger_rules.proofs.Kept.{Both}
 use Rattle.merger_rules.proofs.SoundCalls.{start_sound}
-use Rattle.merging_shelf.specs.Slots.{shelf_slots, bit_at, used, envelope_in}
+use Rattle.merging_shelf.specs.Slots.{shelf_slots, bit_at, used, taken_in, slot_at}
+use Rattle.merging_shelf.specs.declared.Slot.{Slot}
 use Rattle.merging_shelf.proofs.Shelving.{empty_shelved, none_used}
-use Rattle.recorder_rules.specs.Makings.{Trying, untried}
+use Rattle.recorder_rules.specs.Makings.{Trying}
 use Rattle.sync_call_rules.specs.Calls.{Got}
 use Rattle.merging_rules.specs.Accounts.{told_of, gone_of}
-use Rattle.merging_rules.specs.Piles.{Deed, called, gave_way, calls_in, Pile, Handed, then, no_pile}
+use Rattle.merging_rules.specs.Piles.{Deed, called, gave_way, calls_in, Pile, Handed, then, empty_shelf, no_pile}
 use Rattle.merging_rules.specs.Orders.{no_got, comes_again}
 use Rattle.merging_rules.specs.Tallies.{answers_of, how_often, is_kept, is_double, is_late, ways_given, taken_out, is_frame, is_passed_over, CountsMore}
 use Rattle.merging_rules.proofs.Owning.{Owned, owned, owned_append, left_last, AsOwned, out_append}
+use Rattle.bits.specs.declared.Refusal.{Refusal}
 
 -- ---- scripts, one behind the other
 
@@ -43,9 +44,9 @@ answers_append [] ds v = refl
 answers_append (called (push s h) ∷ cs) ds v =
     let k = (push_of s h v).answer in
     let w = (push_of s h v).next in
-    ap (λ (l : List Keeping). cond (comes_again h.check k) l (k ∷ l)) (answers_append cs ds w) ∙ sym (cond_append (comes_again h.check k) k (answers_of cs w) (answers_of ds (left (calls_in cs) w)))
+    ap (λ (l : List (Result Keeping Refusal)). cond (comes_again h.check k) l (k ∷ l)) (answers_append cs ds w) ∙ sym (cond_append (comes_again h.check k) k (answers_of cs w) (answers_of ds (left (calls_in cs) w)))
   where
-    cond_append : (b : Bool) (k : Keeping) (l m : List Keeping) → cond b l (k ∷ l) ++ m ≡ cond b (l ++ m) (k ∷ (l ++ m))
+    cond_append : (b : Bool) (k : Result Keeping Refusal) (l m : List (Result Keeping Refusal)) → cond b l (k ∷ l) ++ m ≡ cond b (l ++ m) (k ∷ (l ++ m))
     cond_append true k l m = refl
     cond_append false k l m = refl
 answers_append (called (release a b flush) ∷ cs) ds v = answers_append cs ds (release_of a b flush v).next
@@ -56,7 +57,7 @@ ways_append [] ds = omega arith
 ways_append (called c ∷ cs) ds = ways_append cs ds
 ways_append (gave_way s h ∷ cs) ds = omega (arith, ways_append cs ds)
 
-often_append : (f : Keeping → Bool) (ks ls : List Keeping) → how_often f (ks ++ ls) ≡ how_often f ks + how_often f ls
+often_append : (f : Result Keeping Refusal → Bool) (ks ls : List (Result Keeping Refusal)) → how_often f (ks ++ ls) ≡ how_often f ks + how_often f ls
 unfolding how_often
 often_append f [] ls = omega arith
 often_append f (k ∷ ks) ls = omega (arith, often_append f ks ls)
@@ -70,7 +71,7 @@ taken_append f (gave_way s h ∷ cs) ds v = taken_append f cs ds v
 -- the counts of a script, and of another on what it leaves
 counts_then : (cs ds : List Deed) (p q r : Pile) → left (calls_in cs) p.merger ≡ q.merger → CountsMore cs p q → CountsMore ds q r → CountsMore (cs ++ ds) p r
 counts_then cs ds p q r e a b =
-    let often : (f : Keeping → Bool) → how_often f (answers_of (cs ++ ds) p.merger) ≡ how_often f (answers_of cs p.merger) + how_often f (answers_of ds q.merger)
+    let often : (f : Result Keeping Refusal → Bool) → how_often f (answers_of (cs ++ ds) p.merger) ≡ how_often f (answers_of cs p.merger) + how_often f (answers_of ds q.merger)
     = λ f. ap (how_often f) (answers_append cs ds p.merger ∙ ap (λ (v : View). answers_of cs p.merger ++ answers_of ds v) e) ∙ often_append f (answers_of cs p.merger) (answers_of ds q.merger) in
     let out : (f : Released → Bool) → taken_out f (cs ++ ds) p.merger ≡ taken_out f cs p.merger + taken_out f ds q.merger
     = λ f. taken_append f cs ds p.merger ∙ ap (λ (v : View). taken_out f cs p.merger + taken_out f ds v) e in
@@ -96,34 +97,30 @@ module _ (try : Trying) (gs hs : List Got) where
   frames_at (suc s) = hs
 
   -- a frame that waits is one of its stream, and its slot holds its envelope, and what is said of it
-  pub record Lies (tried : List Tried) (envelopes : List ℕ) (s : ℕ) (h : Held) : Type 0 where
+  pub record Lies (slots : List Slot) (s : ℕ) (h : Held) : Type 0 where
     pub number : ℕ
     pub sent : number < length (frames_at s)
     pub figures : h.figures ≡ (get_or (frames_at s) number no_got).head
-    pub said : get_or tried h.number (untried []) ≡ try (get_or (frames_at s) number no_got).envelope
-    pub envelope : envelope_in h.number envelopes ≡ (get_or (frames_at s) number no_got).envelope
+    pub said : (slot_at slots h.number).tried ≡ try (get_or (frames_at s) number no_got).envelope
+    pub envelope : (slot_at slots h.number).envelope ≡ (get_or (frames_at s) number no_got).envelope
 
-  abbrev pub LieAll : List Tried → List ℕ → View → Type 0
-  LieAll tried envelopes v = All (Both (Lies tried envelopes)) v.pending
+  abbrev pub LieAll : List Slot → View → Type 0
+  LieAll slots v = All (Both (Lies slots)) v.pending
 
   pub record Good (p : Pile) : Type 0 where
     pub sound : Sound p.merger
-    pub slots : length p.shelf.taken ≡ shelf_slots
-    pub tried : length p.shelf.tried ≡ shelf_slots
-    pub room : length p.shelf.envelopes ≡ 1584
+    pub slots : length (taken_in p.shelf) ≡ shelf_slots
     -- a slot is taken exactly where its number waits
-    pub shelved : (x : ℕ) → bit_at p.shelf.taken x ≡ pending_of x p.merger.pending
-    pub balance : p.answered.kept ≡ gone_of p.gone + used p.shelf.taken
-    pub lie : LieAll p.shelf.tried p.shelf.envelopes p.merger
+    pub shelved : (x : ℕ) → bit_at (taken_in p.shelf) x ≡ pending_of x p.merger.pending
+    pub balance : p.answered.kept ≡ gone_of p.gone + used (taken_in p.shelf)
+    pub lie : LieAll p.shelf.slots p.merger
 
   pub good_start : Good no_pile
   good_start = record {
     sound = start_sound;
-    slots = length-replicate shelf_slots false;
-    tried = length-replicate shelf_slots (untried []);
-    room = length-replicate {A = ℕ} 1584 0;
-    shelved = empty_shelved (replicate shelf_slots false) [] refl refl;
-    balance = omega (arith, none_used (replicate shelf_slots false) [] (empty_shelved (replicate shelf_slots false) [] refl refl) refl);
+    slots = refl;
+    shelved = empty_shelved (taken_in empty_shelf) [] refl refl;
+    balance = omega (arith, none_used (taken_in empty_shelf) [] (empty_shelved (taken_in empty_shelf) [] refl refl) refl);
     lie = tt;
   }
 
@@ -146,7 +143,7 @@ module _ (try : Trying) (gs hs : List Got) where
         follows = left_append cs ds p.merger ∙ ap (left (calls_in ds)) a.follows ∙ b.follows;
         out = subst (λ (os : List Owned). AsOwned try gs hs p.merger.last os (h.out ++ (f h.pile).out)) (sym (owned_append cs ds p.merger ∙ ap (λ (v : View). owned cs p.merger ++ owned ds v) a.follows))
             (out_append try gs hs p.merger.last (owned cs p.merger) (owned ds h.pile.merger) h.out (f h.pile).out a.out
-            (subst (λ (k : Clock). AsOwned try gs hs k (owned ds h.pile.merger) (f h.pile).out) (ap (λ (v : View). v.last) (sym a.follows) ∙ left_last cs p.merger) b.out));
+            (subst (λ (k : Option ℕ). AsOwned try gs hs k (owned ds h.pile.merger) (f h.pile).out) (ap (λ (v : View). v.last) (sym a.follows) ∙ left_last cs p.merger) b.out));
         written = omega (arith, a.written, b.written, length-append h.out (f h.pile).out);
         told = omega (arith, a.told, b.told);
         counts = counts_then cs ds p h.pile (f h.pile).pile a.follows a.counts b.counts;

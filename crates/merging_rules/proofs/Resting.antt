@@ -1,5 +1,6 @@
 -- After each turn nothing that waits is ready.
 -- Assumes nothing.
+use Rattle.std.proofs.Common.{Option}
 use mathlib.Core.Path.{◌≡◌, refl, sym, ap, subst}
 use mathlib.Core.Bool.{Bool, false}
 use mathlib.Core.List.{List, [], ◌∷◌}
@@ -8,7 +9,6 @@ use native.Mathlib.Omega.{arith}
 use lib.ListN.{length}
 use Rattle.merge_stretches.specs.Stretches.{settled_of}
 use Rattle.merger_rules.specs.Merging.{View, release_of}
-use Rattle.merger_rules.specs.declared.Clock.{Clock}
 use Rattle.merger_rules.specs.declared.Position.{Position}
 use Rattle.merger_rules.specs.declared.Released.{Released}
 use Rattle.merger_rules.specs.declared.Released.TheVariants.{Frame, PassedOver, NothingReady}
@@ -27,14 +27,14 @@ use Rattle.merging_rules.proofs.Walking.{walk_to, first_fed, second_fed, first_f
 
 -- ---- as often released as positions wait
 
-module _ (a b : Clock) (flush : Bool) where
+module _ (a b : Option ℕ) (flush : Bool) where
   abbrev Rests : View → Type 0
   Rests v = (release_of a b flush v).answer ≡ NothingReady
 
   times_stay : (n : ℕ) (p : Pile) → Rests p.merger → Rests (released_times n a b flush p).pile.merger
   times_stay n p e = subst (λ (q : Pile). Rests q.merger) (sym (idle_times a b flush n p e).pile) e
 
-  empty_rests : (l : List Position) (last : Clock) → length l ≤ 0 → Rests (record { pending = l; last = last })
+  empty_rests : (l : List Position) (last : Option ℕ) → length l ≤ 0 → Rests (record { pending = l; last = last })
   empty_rests [] last h = refl
   empty_rests (p ∷ ps) last h = absurd (omega arith)
 
@@ -66,6 +66,6 @@ module _ (try : Trying) (xs ys : List Input) (dx : Dibits xs) (dy : Dibits ys) w
       let q = second_fed try xs ys dx dy n in
       let v = (walk_to try xs ys dx dy (suc n)).both.pile.merger in
       let p = (then (offered_all try 0 (shown_as o.sent) (walk_to try xs ys dx dy n).both.pile) (offered_all try 1 (shown_as q.sent))).pile in
-      subst (λ (k : Clock). (release_of k (settled_at (suc n) ys q.next) false v).answer ≡ NothingReady) (settled_as xs n (state_after (up_to n xs)) o (first_fed_lem try xs ys dx dy n w))
-      (subst (λ (k : Clock). (release_of (settled_of o) k false v).answer ≡ NothingReady) (settled_as ys n (state_after (up_to n ys)) q (second_fed_lem try xs ys dx dy n w))
+      subst (λ (k : Option ℕ). (release_of k (settled_at (suc n) ys q.next) false v).answer ≡ NothingReady) (settled_as xs n (state_after (up_to n xs)) o (first_fed_lem try xs ys dx dy n w))
+      (subst (λ (k : Option ℕ). (release_of (settled_of o) k false v).answer ≡ NothingReady) (settled_as ys n (state_after (up_to n ys)) q (second_fed_lem try xs ys dx dy n w))
       (times_rest (settled_of o) (settled_of q) false 16 p (few_wait try xs ys dx dy n w)))

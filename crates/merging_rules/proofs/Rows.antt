@@ -1,5 +1,6 @@
 -- The waiting frames of each stream stand in their order: so they are released in it, and none twice.
 -- Assumes nothing.
+use Rattle.std.proofs.Common.{Option, Some, None}
 use mathlib.Core.Path.{◌≡◌, refl, sym, subst, ◌∙◌}
 use mathlib.Core.Bool.{Bool, true, false, cond, not, ◌||◌}
 use mathlib.Core.List.{List, [], ◌∷◌, ◌++◌}
@@ -11,16 +12,11 @@ use lib.Dec.{ltb}
 use lib.ListN.{length, get_or, set}
 use Rattle.bits.specs.Alls.{All}
 use Rattle.bits.proofs.Conds.{cond_both}
-use Rattle.merger_rules.specs.Merging.{View, is_near, home_of, order_of, insert_at, place_on, filled, no_position, alone, PushStep, push_of, is_ready, choose_of, choice_of, snapped, is_after, freed_of, ReleaseStep, settle, release_from}
-use Rattle.merger_rules.specs.Scripts.{release}
+use Rattle.merger_rules.specs.Merging.{chosen, View, is_near, home_of, order_of, insert_at, place_on, filled, no_position, alone, PushStep, push_of, is_ready, choose_of, choice_of, snapped, is_after, freed_of, ReleaseStep, settle, release_from}
 use Rattle.merger_rules.specs.States.{IsNear, FairPlace, Fair, key_at, Under, Spaced, Sound}
-use Rattle.merger_rules.specs.declared.Choice.{Choice}
-use Rattle.merger_rules.specs.declared.Choice.TheVariants.{Neither, Chosen}
-use Rattle.merger_rules.specs.declared.Clock.{Clock}
+use Rattle.merger_rules.specs.declared.Chosen.{Chosen}
 use Rattle.merger_rules.specs.declared.Freed.{Freed}
 use Rattle.merger_rules.specs.declared.Held.{Held}
-use Rattle.merger_rules.specs.declared.Place.{Place}
-use Rattle.merger_rules.specs.declared.Place.TheVariants.{Empty, Holds}
 use Rattle.merger_rules.specs.declared.Position.{Position}
 use Rattle.merger_rules.proofs.Pushes.{push_cases, join_cases, open_cases}
 use Rattle.merger_rules.proofs.SoundCalls.{home_near}
@@ -28,33 +24,33 @@ use Rattle.merging_rules.proofs.Owning.{Owned, chosen_at, own_given}
 
 -- ---- a row: the own offsets of a stream's waiting frames, from m on, each 384 or more above the one before, and all ended at i
 
-abbrev Stands : ℕ → Place → Type 0
-Stands m Empty = Unit {0}
-Stands m (Holds h) = m ≤ h.figures.offset
+abbrev Stands : ℕ → Option Held → Type 0
+Stands m None = Unit {0}
+Stands m (Some h) = m ≤ h.figures.offset
 
-abbrev bound : ℕ → Place → ℕ
-bound m Empty = m
-bound m (Holds h) = h.figures.offset + 384
+abbrev bound : ℕ → Option Held → ℕ
+bound m None = m
+bound m (Some h) = h.figures.offset + 384
 
 abbrev pub Row : ℕ → ℕ → List Position → ℕ → Type 0
 Row s m [] i = m ≤ i
 Row s m (p ∷ ps) i = Stands m (place_on s p) × Row s (bound m (place_on s p)) ps i
 
-bound_high : (m : ℕ) (q : Place) → Stands m q → m ≤ bound m q
-bound_high m Empty w = omega arith
-bound_high m (Holds h) w = omega arith
+bound_high : (m : ℕ) (q : Option Held) → Stands m q → m ≤ bound m q
+bound_high m None w = omega arith
+bound_high m (Some h) w = omega arith
 
 row_le : (s m : ℕ) (l : List Position) (i : ℕ) → Row s m l i → m ≤ i
 row_le s m [] i w = w
 row_le s m (p ∷ ps) i w = omega (arith, bound_high m (place_on s p) w.0, row_le s (bound m (place_on s p)) ps i w.1)
 
-stands_low : (m k : ℕ) (q : Place) → k ≤ m → Stands m q → Stands k q
-stands_low m k Empty h w = tt
-stands_low m k (Holds g) h w = omega arith
+stands_low : (m k : ℕ) (q : Option Held) → k ≤ m → Stands m q → Stands k q
+stands_low m k None h w = tt
+stands_low m k (Some g) h w = omega arith
 
-bound_low : (m k : ℕ) (q : Place) → k ≤ m → bound k q ≤ bound m q
-bound_low m k Empty h = h
-bound_low m k (Holds g) h = omega arith
+bound_low : (m k : ℕ) (q : Option Held) → k ≤ m → bound k q ≤ bound m q
+bound_low m k None h = h
+bound_low m k (Some g) h = omega arith
 
 row_low : (s m k : ℕ) (l : List Position) (i : ℕ) → k ≤ m → Row s m l i → Row s k l i
 row_low s m k [] i h w = omega arith
@@ -84,9 +80,9 @@ above : (o k : ℕ) (l : List Position) → o ≤ k + 191 → Under k l → Spac
 above o k [] h u s = tt
 above o k (p ∷ ps) h u s = let w : k + 191 < p.key = u in (omega arith, above o p.key ps (omega arith) s.0 s.1)
 
-no_frame : (o m i k : ℕ) (q : Place) → FairPlace k q → o ≤ k → i ≤ o → bound m q ≤ i → Stands m q → (x : ℕ) → Stands x q × (bound x q ≡ x)
-no_frame o m i k Empty f a e b w x = (tt, refl)
-no_frame o m i k (Holds h) f a e b w x = absurd (omega (arith, f.1.high))
+no_frame : (o m i k : ℕ) (q : Option Held) → FairPlace k q → o ≤ k → i ≤ o → bound m q ≤ i → Stands m q → (x : ℕ) → Stands x q × (bound x q ≡ x)
+no_frame o m i k None f a e b w x = (tt, refl)
+no_frame o m i k (Some h) f a e b w x = absurd (omega (arith, f.1.high))
 
 cleared : (s o m : ℕ) (l : List Position) (i x y : ℕ) → All Fair l → All (λ (p : Position). o ≤ p.key) l → i ≤ o → x ≤ y → Row s m l i → Row s x l y
 cleared s o m [] i x y f a e h w = h
@@ -122,7 +118,7 @@ module _ (s : ℕ) (h : Held) where
 
   open_row : (l : List Position) (m i : ℕ) → All Fair l → Spaced l → i ≤ own → Row s m l i → Row s m (insert_at (order_of own l) (alone s h) l) (own + 384)
   unfolding order_of
-  open_row [] m i f d e w = filled_row s h m (record { key = own; primary = Empty; alternate = Empty }) [] (own + 384) (omega arith) (omega arith)
+  open_row [] m i f d e w = filled_row s h m (record { key = own; primary = None; alternate = None }) [] (own + 384) (omega arith) (omega arith)
   open_row (p ∷ ps) m i f d e w = by (ltb p.key own) refl (open_row ps (bound m (place_on s p)) i f.1 d.1 e w.1)
     where
       by : (b : Bool) → ltb p.key h.figures.offset ≡ b → Row s (bound m (place_on s p)) (insert_at (order_of h.figures.offset ps) (alone s h) ps) (h.figures.offset + 384)
@@ -130,7 +126,7 @@ module _ (s : ℕ) (h : Held) where
       by true q rest = (w.0, rest)
       by false q rest =
           let low : h.figures.offset ≤ p.key = ltb-false p.key h.figures.offset q in
-          filled_row s h m (record { key = h.figures.offset; primary = Empty; alternate = Empty }) (p ∷ ps) (h.figures.offset + 384) (omega (arith, row_le s m (p ∷ ps) i w))
+          filled_row s h m (record { key = h.figures.offset; primary = None; alternate = None }) (p ∷ ps) (h.figures.offset + 384) (omega (arith, row_le s m (p ∷ ps) i w))
           (cleared s h.figures.offset m (p ∷ ps) i (h.figures.offset + 384) (h.figures.offset + 384) f (low, above h.figures.offset p.key ps (omega arith) d.0 d.1) e (omega arith) w)
 
   pub push_row : (v : View) (m i : ℕ) → Sound v → i ≤ own → Row s m v.pending i → Row s m (push_of s h v).next.pending (own + 384)
@@ -150,18 +146,18 @@ module _ (s : ℕ) (h : Held) where
   module _ (t : ℕ) (same : (p : Position) → place_on t (filled s h p) ≡ place_on t p) where
     set_row : (l : List Position) (at m i : ℕ) → Row t m l i → Row t m (set l at (filled s h (get_or l at no_position))) i
     set_row [] at m i w = w
-    set_row (p ∷ ps) zero m i w = subst (λ (q : Place). Stands m q × Row t (bound m q) ps i) (sym (same p)) w
+    set_row (p ∷ ps) zero m i w = subst (λ (q : Option Held). Stands m q × Row t (bound m q) ps i) (sym (same p)) w
     set_row (p ∷ ps) (suc at) m i w = (w.0, set_row ps at (bound m (place_on t p)) i w.1)
 
     abbrev none : Position
-    none = record { key = h.figures.offset; primary = Empty; alternate = Empty }
+    none = record { key = h.figures.offset; primary = None; alternate = None }
 
-    empty_there : (u : ℕ) → place_on u none ≡ Empty
+    empty_there : (u : ℕ) → place_on u none ≡ None
     empty_there zero = refl
     empty_there (suc u) = refl
 
     put_row : (m : ℕ) (l : List Position) (i : ℕ) → Row t m l i → Row t m (alone s h ∷ l) i
-    put_row m l i w = subst (λ (q : Place). Stands m q × Row t (bound m q) l i) (sym (same none ∙ empty_there t)) (tt, w)
+    put_row m l i w = subst (λ (q : Option Held). Stands m q × Row t (bound m q) l i) (sym (same none ∙ empty_there t)) (tt, w)
 
     insert_row : (n : ℕ) (l : List Position) (m i : ℕ) → Row t m l i → Row t m (insert_at n (alone s h) l) i
     insert_row zero l m i w = put_row m l i w
@@ -189,28 +185,34 @@ module _ (x z i j : ℕ) (os : List Owned) where
   abbrev On : View → Type 0
   On v = (x z : ℕ) → Row 0 x v.pending i → Row 1 z v.pending j → OwnRise x z os
 
-  abbrev Takes : List Position → Choice → Type 0
-  Takes ps Neither = Unit {0}
-  Takes ps (Chosen h true) = (z ≤ h.figures.offset) × Row 1 (h.figures.offset + 384) ps j
-  Takes ps (Chosen h false) = (x ≤ h.figures.offset) × Row 0 (h.figures.offset + 384) ps i
+  abbrev TakesOf : List Position → Bool → ℕ → Type 0
+  TakesOf ps true o = (z ≤ o) × Row 1 (o + 384) ps j
+  TakesOf ps false o = (x ≤ o) × Row 0 (o + 384) ps i
 
-  takes : (a b : Place) (ps : List Position) → Stands x a × Row 0 (bound x a) ps i → Stands z b × Row 1 (bound z b) ps j → Takes ps (choose_of a b)
-  takes Empty Empty ps p q = tt
-  takes Empty (Holds h) ps p q = q
-  takes (Holds h) Empty ps p q = p
-  takes (Holds h) (Holds g) ps p q = cond_both (Takes ps) (h.check || not g.check) (Chosen h false) (Chosen g true) p q
+  abbrev Takes : List Position → Option Chosen → Type 0
+  Takes ps None = Unit {0}
+  Takes ps (Some c) = TakesOf ps c.alternate c.frame.figures.offset
 
-  abbrev Goes : Choice → ReleaseStep → Type 0
+  takes : (a b : Option Held) (ps : List Position) → Stands x a × Row 0 (bound x a) ps i → Stands z b × Row 1 (bound z b) ps j → Takes ps (choose_of a b)
+  takes None None ps p q = tt
+  takes None (Some h) ps p q = q
+  takes (Some h) None ps p q = p
+  takes (Some h) (Some g) ps p q = cond_both (Takes ps) (h.check || not g.check) (chosen h false) (chosen g true) p q
+
+  abbrev Goes : Option Chosen → ReleaseStep → Type 0
   Goes c y = On y.next → OwnRise x z (own_given y.answer c ++ os)
 
-  settle_goes : (c : Choice) (f : Freed) (ps : List Position) (last : Clock) → Takes ps c → Row 0 x ps i → Row 1 z ps j → Goes c (settle c f ps last)
-  settle_goes Neither f ps last t p q = λ on. on x z p q
-  settle_goes (Chosen h true) f ps last t p q =
-      cond_both (Goes (Chosen h true)) (is_after last (snapped last h.figures.offset)) _ _ (λ on. (t.0, on x (h.figures.offset + 384) p t.1)) (λ on. on x z p q)
-  settle_goes (Chosen h false) f ps last t p q =
-      cond_both (Goes (Chosen h false)) (is_after last (snapped last h.figures.offset)) _ _ (λ on. (t.0, on (h.figures.offset + 384) z t.1 q)) (λ on. on x z p q)
+  chosen_goes : (b : Bool) (h : Held) (f : Freed) (ps : List Position) (last : Option ℕ) → TakesOf ps b h.figures.offset → Row 0 x ps i → Row 1 z ps j → Goes (chosen h b) (settle (chosen h b) f ps last)
+  chosen_goes true h f ps last t p q =
+      cond_both (Goes (chosen h true)) (is_after last (snapped last h.figures.offset)) _ _ (λ on. (t.0, on x (h.figures.offset + 384) p t.1)) (λ on. on x z p q)
+  chosen_goes false h f ps last t p q =
+      cond_both (Goes (chosen h false)) (is_after last (snapped last h.figures.offset)) _ _ (λ on. (t.0, on (h.figures.offset + 384) z t.1 q)) (λ on. on x z p q)
 
-  pub release_goes : (a b : Clock) (flush : Bool) (l : List Position) (last : Clock) → Row 0 x l i → Row 1 z l j → Goes (chosen_at l) (release_from a b flush l last)
+  settle_goes : (c : Option Chosen) (f : Freed) (ps : List Position) (last : Option ℕ) → Takes ps c → Row 0 x ps i → Row 1 z ps j → Goes c (settle c f ps last)
+  settle_goes None f ps last t p q = λ on. on x z p q
+  settle_goes (Some c) f ps last t p q = chosen_goes c.alternate c.frame f ps last t p q
+
+  pub release_goes : (a b : Option ℕ) (flush : Bool) (l : List Position) (last : Option ℕ) → Row 0 x l i → Row 1 z l j → Goes (chosen_at l) (release_from a b flush l last)
   release_goes a b flush [] last p q = λ on. on x z p q
   release_goes a b flush (k ∷ ks) last p q =
       cond_both (Goes (choice_of k)) (is_ready a b flush k) _ _

@@ -1,13 +1,12 @@
 -- In each turn the primary's frames are handed in before the alternate's.
 -- Assumes nothing.
+use Rattle.std.proofs.Common.{Option, None}
 use mathlib.Core.Path.{sym, subst, ◌∙◌}
 use mathlib.Core.Bool.{Bool, true, false}
 use mathlib.Core.List.{List, [], ◌∷◌, ◌++◌, append_assoc}
 use Prim.Native.Nat.{ℕ, zero, suc, max}
 use lib.ListN.{length, take, drop}
 use Rattle.bits.proofs.Conds.{cond_both}
-use Rattle.merger_rules.specs.declared.Clock.{Clock}
-use Rattle.merger_rules.specs.declared.Clock.TheVariants.{Absent}
 use Rattle.recorder_rules.specs.Makings.{Trying}
 use Rattle.sync_call_rules.specs.Calls.{Got}
 use Rattle.sync_rules.specs.State.{Input}
@@ -45,23 +44,23 @@ module _ (try : Trying) where
 
   -- ---- releases
 
-  times_first : (n : ℕ) (a b : Clock) (p : Pile) (rest : List Deed) → PrimaryFirst false rest → PrimaryFirst false ((released_times n a b false p).deeds ++ rest)
+  times_first : (n : ℕ) (a b : Option ℕ) (p : Pile) (rest : List Deed) → PrimaryFirst false rest → PrimaryFirst false ((released_times n a b false p).deeds ++ rest)
   unfolding released_times
   times_first zero a b p rest r = r
   times_first (suc n) a b p rest r = times_first n a b (released a b false p).pile rest r
 
-  times_either : (n : ℕ) (a b : Clock) (p : Pile) (rest : List Deed) → PrimaryFirst false rest → Either ((released_times (suc n) a b false p).deeds ++ rest)
+  times_either : (n : ℕ) (a b : Option ℕ) (p : Pile) (rest : List Deed) → PrimaryFirst false rest → Either ((released_times (suc n) a b false p).deeds ++ rest)
   unfolding released_times
   times_either n a b p rest r c = times_first n a b (released a b false p).pile rest r
 
-  flush_first : (n : ℕ) (a b : Clock) (p : Pile) → PrimaryFirst false (released_times n a b true p).deeds
+  flush_first : (n : ℕ) (a b : Option ℕ) (p : Pile) → PrimaryFirst false (released_times n a b true p).deeds
   unfolding released_times
   flush_first zero a b p = tt
   flush_first (suc n) a b p = flush_first n a b (released a b true p).pile
 
   -- ---- turns
 
-  turn_first : (l m : List Got) (p : Pile) (n : ℕ) (a b : Clock) (rest : List Deed) → PrimaryFirst false rest
+  turn_first : (l m : List Got) (p : Pile) (n : ℕ) (a b : Option ℕ) (rest : List Deed) → PrimaryFirst false rest
       → let two = then (offered_all try 0 l p) (offered_all try 1 m) in PrimaryFirst false ((two.deeds ++ (released_times (suc n) a b false two.pile).deeds) ++ rest)
   turn_first l m p n a b rest r =
       let one = offered_all try 0 l p in
@@ -86,4 +85,4 @@ module _ (try : Trying) where
   primary_first xs ys =
       let n = max (length xs) (length ys) in
       let p = (walk n try xs ys begun).both.pile in
-      walk_first n xs ys (released_times 16 Absent Absent true p).deeds (flush_first 16 Absent Absent p)
+      walk_first n xs ys (released_times 16 None None true p).deeds (flush_first 16 None None p)

@@ -1,14 +1,14 @@
 -- Two recordings, turn by turn: their synchronisers go on as those of each alone, and all their frames are handed in.
 -- Assumes nothing.
+use Rattle.std.proofs.Common.{None}
 use mathlib.Core.Path.{◌≡◌, refl, sym, ap, subst, ◌∙◌}
 use mathlib.Core.List.{List, []}
-use Prim.Native.Nat.{ℕ, zero, suc, ◌+◌, ◌-◌, ◌≤◌, max}
+use Prim.Native.Nat.{ℕ, zero, suc, ◌+◌, ◌≤◌, max}
 use native.Mathlib.Omega.{arith}
 use lib.ListN.{length, take, drop, length-append}
 use lib.Seq.{take_all}
 use Rattle.bits.specs.Alls.{All}
-use Rattle.merger_rules.specs.declared.Clock.TheVariants.{Absent}
-use Rattle.merging_shelf.specs.Slots.{used}
+use Rattle.merging_shelf.specs.Slots.{used, taken_in}
 use Rattle.merging_shelf.proofs.Shelving.{none_used}
 use Rattle.recorder_rules.specs.Calls.{frames_for}
 use Rattle.recorder_rules.specs.Makings.{Trying}
@@ -140,10 +140,10 @@ module _ (try : Trying) (xs ys : List Input) (dx : Dibits xs) (dy : Dibits ys) w
       no_pile (as_handed (walk_to n)) flushed w.faring (times_fare try (sent_for xs) (sent_for ys) _ _ _ _ p w.faring.good)
 
   -- none is left waiting
-  pub none_waits : used (whole try xs ys).pile.shelf.taken ≡ 0
+  pub none_waits : used (taken_in (whole try xs ys).pile.shelf) ≡ 0
   none_waits =
       let n = max (length xs) (length ys) in
       let p = (walk_to n).both.pile in
       let g = whole_fares.good in
-      none_used (whole try xs ys).pile.shelf.taken (whole try xs ys).pile.merger.pending g.shelved
-      (omega (arith, flush_empties 16 Absent Absent p, (walked_to n).faring.good.sound.few))
+      none_used (taken_in (whole try xs ys).pile.shelf) (whole try xs ys).pile.merger.pending g.shelved
+      (omega (arith, flush_empties 16 None None p, (walked_to n).faring.good.sound.few))

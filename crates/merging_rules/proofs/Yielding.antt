@@ -1,5 +1,6 @@
 -- A frame for which the positions are too few: one that gives way, and one that does not.
 -- Assumes nothing.
+use Rattle.std.proofs.Common.{Result, Ok, Err}
 use mathlib.Core.Path.{◌≡◌, refl, sym, ap, ◌∙◌}
 use mathlib.Core.Bool.{Bool, true, false, true≢false, not, ◌&&◌}
 use Prim.Native.Nat.{ℕ, ◌≤◌, ◌<◌}
@@ -12,34 +13,35 @@ use Rattle.bits.proofs.Ands.{both_true}
 use Rattle.merger_rules.specs.Merging.{View, home_of, order_of, insert_at, filled, no_position, alone, PushStep, push_of}
 use Rattle.merger_rules.specs.declared.Held.{Held}
 use Rattle.merger_rules.specs.declared.Keeping.{Keeping}
-use Rattle.merger_rules.specs.declared.Keeping.TheVariants.{Kept, Double, Late, Refused}
+use Rattle.merger_rules.specs.declared.Keeping.TheVariants.{Kept, Double, Late}
 use Rattle.merger_rules.proofs.Inserts.{length_insert}
 use Rattle.merger_rules.proofs.Pushes.{push_cases, join_cases, open_cases}
 use Rattle.merging_rules.specs.Piles.{insists, yields}
 use Rattle.merging_rules.specs.Orders.{LeavesOne, GaveWay}
+use Rattle.bits.specs.declared.Refusal.{Refusal}
 
 -- ---- by the answer
 
 -- one that insists decodes
-pub insists_decodes : (d : Bool) (k : Keeping) → insists d k ≡ true → d ≡ true
-insists_decodes d Kept e = absurd (true≢false (sym e))
-insists_decodes d Double e = absurd (true≢false (sym e))
-insists_decodes d Late e = absurd (true≢false (sym e))
-insists_decodes d (Refused x) e = e
+pub insists_decodes : (d : Bool) (k : Result Keeping Refusal) → insists d k ≡ true → d ≡ true
+insists_decodes d (Ok Kept) e = absurd (true≢false (sym e))
+insists_decodes d (Ok Double) e = absurd (true≢false (sym e))
+insists_decodes d (Ok Late) e = absurd (true≢false (sym e))
+insists_decodes d (Err x) e = e
 
 -- what is not refused insists on nothing
-pub not_refused_rests : (d : Bool) (k : Keeping) → insists true k ≡ false → insists d k ≡ false
-not_refused_rests d Kept e = refl
-not_refused_rests d Double e = refl
-not_refused_rests d Late e = refl
-not_refused_rests d (Refused x) e = absurd (true≢false e)
+pub not_refused_rests : (d : Bool) (k : Result Keeping Refusal) → insists true k ≡ false → insists d k ≡ false
+not_refused_rests d (Ok Kept) e = refl
+not_refused_rests d (Ok Double) e = refl
+not_refused_rests d (Ok Late) e = refl
+not_refused_rests d (Err x) e = absurd (true≢false e)
 
 -- one that neither insists nor yields is not refused
-pub handed_once : (d : Bool) (k : Keeping) (before after : ℕ) → insists d k ≡ false → yields d k before after ≡ false → insists true k ≡ false
-handed_once d Kept before after e f = refl
-handed_once d Double before after e f = refl
-handed_once d Late before after e f = refl
-handed_once d (Refused x) before after e f = absurd (true≢false (sym (ap not e) ∙ f))
+pub handed_once : (d : Bool) (k : Result Keeping Refusal) (before after : ℕ) → insists d k ≡ false → yields d k before after ≡ false → insists true k ≡ false
+handed_once d (Ok Kept) before after e f = refl
+handed_once d (Ok Double) before after e f = refl
+handed_once d (Ok Late) before after e f = refl
+handed_once d (Err x) before after e f = absurd (true≢false (sym (ap not e) ∙ f))
 
 -- ---- by the positions
 

@@ -1,20 +1,20 @@
 -- What is counted of the frames, and what holds of the work between calls: what lies on the shelf is what waits in the merger, and every frame is
 -- accounted for. Assumes nothing.
-use Rattle.std.specs.Prelude.{◌≡◌, Bool, true, ℕ, ◌+◌, ◌-◌, ◌^◌, ◌≤◌, ◌<◌, List, length, set}
+use Rattle.std.specs.Prelude.{◌≡◌, Bool, true, ℕ, ◌+◌, ◌-◌, ◌^◌, ◌≤◌, ◌<◌, List, length, set, Option, Result, Ok, Err}
 use Rattle.merger_rules.specs.Counts.{pending_of, in_freed}
 use Rattle.merger_rules.specs.Merging.{release_of}
-use Rattle.merger_rules.specs.declared.Clock.{Clock}
 use Rattle.merger_rules.specs.declared.Freed.{Freed}
 use Rattle.merger_rules.specs.declared.Keeping.{Keeping}
-use Rattle.merger_rules.specs.declared.Keeping.TheVariants.{Kept, Double, Late, Refused}
+use Rattle.merger_rules.specs.declared.Keeping.TheVariants.{Kept, Double, Late}
 use Rattle.merger_rules.specs.declared.Released.{Released}
 use Rattle.merger_rules.specs.declared.Released.TheVariants.{Frame, PassedOver, NothingReady}
 use Rattle.merger.specs.States.{view_of, ValidMerger}
 use Rattle.merger.specs.declared.Merger.{Merger}
-use Rattle.merging_shelf.specs.Slots.{shelf_slots, bit_at, used}
+use Rattle.merging_shelf.specs.Slots.{shelf_slots, bit_at, used, taken_in}
 use Rattle.merging_rules.specs.declared.Answered.{Answered}
 use Rattle.merging_rules.specs.declared.Gone.{Gone}
 use Rattle.merging_rules.specs.declared.Work.{Work}
+use Rattle.bits.specs.declared.Refusal.{Refusal}
 
 -- ---- the count
 
@@ -31,18 +31,18 @@ abbrev pub gone_of : Gone → ℕ
 gone_of g = g.released + g.others + g.passed
 
 -- the merger's answer to a frame, counted
-abbrev pub counted : Keeping → Answered → Answered
-counted Kept a = record { kept = a.kept + 1; late = a.late; double = a.double; refused = a.refused }
-counted Double a = record { kept = a.kept; late = a.late; double = a.double + 1; refused = a.refused }
-counted Late a = record { kept = a.kept; late = a.late + 1; double = a.double; refused = a.refused }
-counted (Refused r) a = record { kept = a.kept; late = a.late; double = a.double; refused = a.refused + 1 }
+abbrev pub counted : Result Keeping Refusal → Answered → Answered
+counted (Ok Kept) a = record { kept = a.kept + 1; late = a.late; double = a.double; refused = a.refused }
+counted (Ok Double) a = record { kept = a.kept; late = a.late; double = a.double + 1; refused = a.refused }
+counted (Ok Late) a = record { kept = a.kept; late = a.late + 1; double = a.double; refused = a.refused }
+counted (Err r) a = record { kept = a.kept; late = a.late; double = a.double; refused = a.refused + 1 }
 
 -- how many frames it takes in
-abbrev pub takes_in : Keeping → ℕ
-takes_in Kept = 1
-takes_in Double = 0
-takes_in Late = 0
-takes_in (Refused r) = 0
+abbrev pub takes_in : Result Keeping Refusal → ℕ
+takes_in (Ok Kept) = 1
+takes_in (Ok Double) = 0
+takes_in (Ok Late) = 0
+takes_in (Err r) = 0
 
 -- A release's answer, where `out` frames were taken out, counted: of a position that is handed on one frame is in the journal, and the other one,
 -- where there is one, gave way to it
@@ -58,11 +58,11 @@ TakesOut PassedOver out = Unit {0}
 TakesOut NothingReady out = out ≡ 0
 
 -- the slots after the merger's answer to a frame that was handed in with a slot's number: it is taken where the frame was kept
-abbrev pub slots_after : Keeping → ℕ → List Bool → List Bool
-slots_after Kept slot taken = set taken slot true
-slots_after Double slot taken = taken
-slots_after Late slot taken = taken
-slots_after (Refused r) slot taken = taken
+abbrev pub slots_after : Result Keeping Refusal → ℕ → List Bool → List Bool
+slots_after (Ok Kept) slot taken = set taken slot true
+slots_after (Ok Double) slot taken = taken
+slots_after (Ok Late) slot taken = taken
+slots_after (Err r) slot taken = taken
 
 -- ---- the work
 
@@ -72,14 +72,14 @@ waiting m x = pending_of x (view_of m).pending
 
 pub record Accounted (w : Work) : Type 0 where
   pub valid : ValidMerger w.merger
-  pub slots : length w.shelf.taken ≡ shelf_slots
+  pub slots : length (taken_in w.shelf) ≡ shelf_slots
   -- a slot is taken exactly where its number waits in the merger
-  pub shelved : (x : ℕ) → bit_at w.shelf.taken x ≡ waiting w.merger x
+  pub shelved : (x : ℕ) → bit_at (taken_in w.shelf) x ≡ waiting w.merger x
   -- each frame taken in is in the journal, gave way to the other stream's frame of its position, was passed over, or waits
-  pub balance : w.answered.kept ≡ gone_of w.gone + used w.shelf.taken
+  pub balance : w.answered.kept ≡ gone_of w.gone + used (taken_in w.shelf)
 
 -- where the streams are settled so far, nothing that waits is ready
-abbrev pub Idle : Clock → Clock → Bool → Merger → Type 0
+abbrev pub Idle : Option ℕ → Option ℕ → Bool → Merger → Type 0
 Idle primary alternate flush m = (release_of primary alternate flush (view_of m)).answer ≡ NothingReady
 
 -- a release took the freed numbers out of the merger
@@ -94,6 +94,6 @@ IsFrameSlot PassedOver = Unit {0}
 IsFrameSlot NothingReady = Unit {0}
 
 -- a release takes one position out, or nothing was ready
-pub record Fewer (primary alternate : Clock) (flush : Bool) (before after : Merger) : Type 0 where
+pub record Fewer (primary alternate : Option ℕ) (flush : Bool) (before after : Merger) : Type 0 where
   pub no_more : after.n ≤ before.n
   pub idle : after.n ≡ before.n → Idle primary alternate flush after

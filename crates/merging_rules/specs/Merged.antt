@@ -1,11 +1,9 @@
 -- What is claimed of two whole recordings: what their merged journal holds, and that no frame is lost without being counted.
 -- Assumes nothing.
-use Rattle.std.specs.Prelude.{◌≡◌, false, cond, List, [], ◌∷◌, ℕ, suc, ◌+◌, ◌≤◌, ◌<◌, length, get_or}
+use Rattle.std.specs.Prelude.{◌≡◌, false, cond, List, [], ◌∷◌, ℕ, suc, ◌+◌, ◌≤◌, ◌<◌, length, get_or, Option, Some, None}
 use Rattle.journal_rules.specs.Gaps.{Framed}
 use Rattle.merger_rules.specs.Merging.{snapped}
 use Rattle.merger_rules.specs.Scripts.{releases, started}
-use Rattle.merger_rules.specs.declared.Clock.{Clock}
-use Rattle.merger_rules.specs.declared.Clock.TheVariants.{Absent, At}
 use Rattle.merger_rules.specs.declared.Release.{Release}
 use Rattle.recorder_rules.specs.Makings.{Trying, FairTrying, framed_of}
 use Rattle.recorder_rules.specs.Statements.{JournalOf}
@@ -20,7 +18,7 @@ use Rattle.merging_rules.specs.Settling.{Promised, Prompt}
 
 -- A written frame is one of the frames gs, from number `from` on: with its own envelope and figures, and what the decoder says of that very envelope. Its offset
 -- is its own, moved to the grid of what was handed on last
-pub record CameFrom (try : Trying) (gs : List Got) (from : ℕ) (last : Clock) (f : Framed) : Type 0 where
+pub record CameFrom (try : Trying) (gs : List Got) (from : ℕ) (last : Option ℕ) (f : Framed) : Type 0 where
   pub number : ℕ
   pub later : from ≤ number
   pub sent : number < length gs
@@ -30,13 +28,13 @@ pub record CameFrom (try : Trying) (gs : List Got) (from : ℕ) (last : Clock) (
 
 -- The frames fs are those that the merger released, in their order, each a frame of the stream that it names: no frame comes twice, and each stream's keep their
 -- order. m and n are the numbers from which on frames of the primary and of the alternate may come.
-abbrev pub AsReleased : Trying → List Got → List Got → ℕ → ℕ → Clock → List Release → List Framed → Type 0
+abbrev pub AsReleased : Trying → List Got → List Got → ℕ → ℕ → Option ℕ → List Release → List Framed → Type 0
 AsReleased try gs hs m n last [] [] = Unit {0}
 AsReleased try gs hs m n last [] (f ∷ fs) = ⊥
 AsReleased try gs hs m n last (r ∷ rs) [] = ⊥
 AsReleased try gs hs m n last (r ∷ rs) (f ∷ fs) =
     (f.place ≡ r.figures.offset) × (c : CameFrom try (cond r.alternate hs gs) (cond r.alternate n m) last f)
-    × AsReleased try gs hs (cond r.alternate m (suc c.number)) (cond r.alternate (suc c.number) n) (At f.place) rs fs
+    × AsReleased try gs hs (cond r.alternate m (suc c.number)) (cond r.alternate (suc c.number) n) (Some f.place) rs fs
 
 -- pushes that are dibits
 abbrev pub Dibits : List Input → Type 0
@@ -50,10 +48,10 @@ pub record MergedRule (try : Trying) (xs ys : List Input) : Type 0 where
   -- in each turn the primary's before the alternate's
   pub primary_first : PrimaryFirst false (whole try xs ys).deeds
   -- a position waits until both streams have moved past it, and no longer
-  pub promised : Promised (At 0) (At 0) (whole try xs ys).deeds
+  pub promised : Promised (Some 0) (Some 0) (whole try xs ys).deeds
   pub prompt : (n : ℕ) → Prompt try xs ys n
   -- the frames of the journal are those that the merger released
-  pub released : AsReleased try (sent_for xs) (sent_for ys) 0 0 Absent (releases (calls_in (whole try xs ys).deeds) started) (merged_frames try xs ys)
+  pub released : AsReleased try (sent_for xs) (sent_for ys) 0 0 None (releases (calls_in (whole try xs ys).deeds) started) (merged_frames try xs ys)
   -- they are apart, so that their journal has no break from the first to the last, and none of its records is refused
   pub journal : JournalOf (merged_frames try xs ys)
   -- every frame of both recordings was taken in, late or double, or counts as refused

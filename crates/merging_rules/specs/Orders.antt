@@ -1,11 +1,11 @@
 -- What is handed in to the merger: the frames of both recordings, each stream's in their order, but for those that gave way.
 -- Assumes nothing.
-use Rattle.std.specs.Prelude.{◌≡◌, Bool, true, false, List, [], ◌∷◌, zero, suc, ◌≤◌, ◌<◌, length, take}
+use Rattle.std.specs.Prelude.{◌≡◌, Bool, true, false, List, [], ◌∷◌, zero, suc, ◌≤◌, ◌<◌, length, take, Result, Ok, Err}
 use Rattle.merger_rules.specs.Merging.{View, is_late, home_of, push_of, release_of}
 use Rattle.merger_rules.specs.Scripts.{push, release}
 use Rattle.merger_rules.specs.declared.Held.{Held}
 use Rattle.merger_rules.specs.declared.Keeping.{Keeping}
-use Rattle.merger_rules.specs.declared.Keeping.TheVariants.{Kept, Double, Late, Refused}
+use Rattle.merger_rules.specs.declared.Keeping.TheVariants.{Kept, Double, Late}
 use Rattle.recorder_rules.specs.Calls.{frames_for}
 use Rattle.recorder_rules.specs.Makings.{Trying, is_accepted}
 use Rattle.sync_call_rules.specs.Calls.{Got}
@@ -13,6 +13,7 @@ use Rattle.sync_rules.specs.Frames.{no_head}
 use Rattle.sync_rules.specs.Sizes.{most_dibits}
 use Rattle.sync_rules.specs.State.{Input}
 use Rattle.merging_rules.specs.Piles.{Deed, called, gave_way}
+use Rattle.bits.specs.declared.Refusal.{Refusal}
 
 -- the frames that the synchroniser of a recording sends: it takes 2^40 dibits
 abbrev pub sent_for : List Input → List Got
@@ -27,11 +28,11 @@ IsFirst try [] h = ⊥
 IsFirst try (g ∷ gs) h = (h.figures ≡ g.head) × (h.check ≡ is_accepted (try g.envelope).outcome)
 
 -- It comes again: refused though it decodes
-abbrev pub comes_again : Bool → Keeping → Bool
-comes_again decodes Kept = false
-comes_again decodes Double = false
-comes_again decodes Late = false
-comes_again decodes (Refused x) = decodes
+abbrev pub comes_again : Bool → Result Keeping Refusal → Bool
+comes_again decodes (Ok Kept) = false
+comes_again decodes (Ok Double) = false
+comes_again decodes (Ok Late) = false
+comes_again decodes (Err x) = decodes
 
 -- one that does not come again is done
 abbrev pub without : Bool → List Got → List Got

@@ -1,18 +1,19 @@
 -- What the answers of the merger add to the counts.
 -- Assumes nothing.
-use Rattle.std.specs.Prelude.{◌≡◌, Bool, true, false, cond, List, [], ◌∷◌, ℕ, ◌+◌}
+use Rattle.std.specs.Prelude.{◌≡◌, Bool, true, false, cond, List, [], ◌∷◌, ℕ, ◌+◌, Result, Ok, Err}
 use Rattle.merger_rules.specs.Merging.{View, push_of, release_of}
 use Rattle.merger_rules.specs.Scripts.{push, release}
 use Rattle.merger_rules.specs.declared.Keeping.{Keeping}
-use Rattle.merger_rules.specs.declared.Keeping.TheVariants.{Kept, Double, Late, Refused}
+use Rattle.merger_rules.specs.declared.Keeping.TheVariants.{Kept, Double, Late}
 use Rattle.merger_rules.specs.declared.Released.{Released}
 use Rattle.merger_rules.specs.declared.Released.TheVariants.{Frame, PassedOver, NothingReady}
 use Rattle.merging_shelf.specs.Slots.{count_freed}
 use Rattle.merging_rules.specs.Piles.{Deed, called, gave_way, Pile}
 use Rattle.merging_rules.specs.Orders.{comes_again}
+use Rattle.bits.specs.declared.Refusal.{Refusal}
 
 -- the answers to the pushes, but for those of frames that come again
-abbrev pub answers_of : List Deed → View → List Keeping
+abbrev pub answers_of : List Deed → View → List (Result Keeping Refusal)
 answers_of [] v = []
 answers_of (called (push s h) ∷ ds) v =
     cond (comes_again h.check (push_of s h v).answer) (answers_of ds (push_of s h v).next) ((push_of s h v).answer ∷ answers_of ds (push_of s h v).next)
@@ -25,27 +26,27 @@ ways_given [] = 0
 ways_given (called c ∷ ds) = ways_given ds
 ways_given (gave_way s h ∷ ds) = 1 + ways_given ds
 
-unfoldable pub how_often : (Keeping → Bool) → List Keeping → ℕ
+unfoldable pub how_often : ((Result Keeping Refusal) → Bool) → List (Result Keeping Refusal) → ℕ
 how_often f [] = 0
 how_often f (k ∷ ks) = cond (f k) 1 0 + how_often f ks
 
-abbrev pub is_kept : Keeping → Bool
-is_kept Kept = true
-is_kept Double = false
-is_kept Late = false
-is_kept (Refused r) = false
+abbrev pub is_kept : Result Keeping Refusal → Bool
+is_kept (Ok Kept) = true
+is_kept (Ok Double) = false
+is_kept (Ok Late) = false
+is_kept (Err r) = false
 
-abbrev pub is_double : Keeping → Bool
-is_double Kept = false
-is_double Double = true
-is_double Late = false
-is_double (Refused r) = false
+abbrev pub is_double : Result Keeping Refusal → Bool
+is_double (Ok Kept) = false
+is_double (Ok Double) = true
+is_double (Ok Late) = false
+is_double (Err r) = false
 
-abbrev pub is_late : Keeping → Bool
-is_late Kept = false
-is_late Double = false
-is_late Late = true
-is_late (Refused r) = false
+abbrev pub is_late : Result Keeping Refusal → Bool
+is_late (Ok Kept) = false
+is_late (Ok Double) = false
+is_late (Ok Late) = true
+is_late (Err r) = false
 
 -- how many frames the releases took out whose answer is such a one
 abbrev pub taken_out : (Released → Bool) → List Deed → View → ℕ

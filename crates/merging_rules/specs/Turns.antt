@@ -1,10 +1,9 @@
 -- Two recordings of the same time, dibit by dibit: the primary's is pushed, then the alternate's; every frame goes into the merger with the decoder's yes or no,
 -- or gives way; then all that is ready is released with both settled offsets. A recording that has ended is absent.
 -- Assumes nothing.
-use Rattle.std.specs.Prelude.{true, false, List, [], ◌++◌, ℕ, zero, suc, max, length, take, drop}
+use Rattle.std.specs.Prelude.{true, false, List, [], ◌++◌, ℕ, zero, suc, max, length, take, drop, None}
 use Rattle.journal_rules.specs.Gaps.{Framed}
 use Rattle.merge_stretches.specs.Stretches.{settled_of}
-use Rattle.merger_rules.specs.declared.Clock.TheVariants.{Absent}
 use Rattle.recorder_rules.specs.Makings.{Trying}
 use Rattle.sync_call_rules.specs.Calls.{shown_as}
 use Rattle.sync_rules.specs.Sizes.{room_size}
@@ -62,7 +61,7 @@ walked try xs ys = walk (max (length xs) (length ys)) try xs ys begun
 
 -- and what still waits then
 abbrev pub flushed : Pile → Handed
-flushed p = all_released Absent Absent true p
+flushed p = all_released None None true p
 
 abbrev pub whole : Trying → List Input → List Input → Handed
 whole try xs ys = then (handed (walked try xs ys).both.pile (walked try xs ys).out (walked try xs ys).deeds) flushed

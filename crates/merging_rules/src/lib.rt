@@ -30,6 +30,7 @@ pub struct Gone {
 }
 
 // Holds what frames are merged with: the merger, the waiting frames of both streams, and the two counts.
+// kept: `ValidWork` is a clause and no ghost field, by what may not change: `merge_recorder_steps::stepped` hands on whatever work it is given.
 #[derive(Clone, Copy)]
 pub struct Work {
     pub merger: Merger,

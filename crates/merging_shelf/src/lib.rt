@@ -3,97 +3,82 @@
 
 #![tactic(auto)]
 
-ghost use Rattle.std.specs.Prelude.{◌≡◌, true, false, ◌<◌, length, get_or, set, replicate};
-ghost use Rattle.journal_rules.specs.declared.Outcome.TheVariants.{Untried};
-ghost use Rattle.merging_shelf.specs.Slots.{shelf_slots, free_slot, used, IsSlot, cleared, count_free, count_freed, put_in};
+ghost use Rattle.std.specs.Prelude.{◌≡◌, true, false, not, ◌<◌, length, get_or, set, replicate, position};
+ghost use Rattle.merging_shelf.specs.Slots.{shelf_slots, free_slot, used, IsSlot, empty_slot, taken_in, cleared_slots, count_free, count_freed};
+ghost use Rattle.merging_shelf.specs.declared.Slot.{Slot};
 
-use journal_rules::Tried;
-use merger_rules::{Free, Freed};
+use journal_rules::{Outcome, Tried};
+use merger_rules::Freed;
 
-// Which slots are taken, what the decoder said of their frames, and their envelopes, 48 bytes a slot.
+// kept: `taken` beside the rest and no Option, by what may not change: `without` says that what was laid in a slot stays there when it is free again.
+// A place for one frame: whether it is taken, what the decoder said of the frame, and its envelope.
+#[derive(Clone, Copy)]
+pub struct Slot {
+    pub taken: bool,
+    pub tried: Tried,
+    pub envelope: [u8; 48],
+}
+
+// The slots. One that is free again keeps what was laid there until another frame is.
 #[derive(Clone, Copy)]
 pub struct Shelf {
-    pub taken: [bool; 33],
-    pub tried: [Tried; 33],
-    pub envelopes: [u8; 1584],
+    pub slots: [Slot; 33],
 }
 
 // Gives a shelf on which nothing lies.
 pub fn empty() -> Shelf
-    ensures { result ≡ record { taken = replicate shelf_slots false; tried = replicate shelf_slots (record { outcome = Untried; corrected = 0 }); envelopes = replicate 1584 0 } }
+    ensures { result ≡ record { slots = replicate shelf_slots empty_slot } }
 {
-    let none = Tried {
-        outcome: journal_rules::Outcome::Untried,
+    let tried = Tried {
+        outcome: Outcome::Untried,
         corrected: 0,
     };
-    Shelf {
-        taken: [false; 33],
-        tried: [none; 33],
-        envelopes: [0u8; 1584],
-    }
+    let slot = Slot {
+        taken: false,
+        tried,
+        envelope: [0; 48],
+    };
+    Shelf { slots: [slot; 33] }
+}
+
+// Finds the first slot that is not taken.
+fn first_free(slots: &[Slot]) -> Option<usize>
+    ensures { result ≡ position (λ (s : Slot). not s.taken) slots.now }
+{
+    slots.iter().position(|slot| !slot.taken)
 }
 
 // Finds the first free slot. There is one: the caller shows that not all are taken.
-pub fn free_slot(taken: [bool; 33]) -> usize
-    requires { used taken < shelf_slots }
-    ensures free { (result < shelf_slots) × (get_or taken result false ≡ false) }
-    ensures first { result ≡ free_slot taken }
+#[tactic(auto, using(crate::proofs::Shelving::first_found, crate::proofs::Shelving::free_within, crate::proofs::Shelving::free_is))]
+pub fn free_slot(shelf: &Shelf) -> usize
+    requires { used (taken_in shelf.now) < shelf_slots }
+    ensures free { (result < shelf_slots) × (get_or (taken_in shelf.now) result false ≡ false) }
+    ensures first { result ≡ free_slot (taken_in shelf.now) }
 {
-    let mut k = 0;
-    while k < 33 {
-        if !taken[k] {
-            return k;
-        }
-        k += 1;
-    }
-    k
-}
-
-// Writes an envelope over the one of a slot.
-fn with_envelope(envelopes: [u8; 1584], slot: usize, envelope: &[u8]) -> [u8; 1584]
-    requires fact_1 { slot < shelf_slots }
-    requires fact_2 { length envelope.now ≡ 48 }
-    ensures { result ≡ put_in slot envelope.now envelopes }
-{
-    let mut all = envelopes;
-    let from = 48 * slot;
-    let to = from + 48;
-    bits::copy(envelope, &mut all[from..to]);
-    all
+    first_free(&shelf.slots).unwrap()
 }
 
 // Lays a frame into a slot: its envelope, and what the decoder said of it.
 pub fn with_frame(shelf: Shelf, slot: usize, tried: Tried, envelope: &[u8]) -> Shelf
     requires { (slot < shelf_slots) × (length envelope.now ≡ 48) }
-    ensures taken { result.taken ≡ set shelf.taken slot true }
-    ensures tried { result.tried ≡ set shelf.tried slot «tried» }
-    ensures envelopes { result.envelopes ≡ put_in slot envelope.now shelf.envelopes }
+    ensures { result ≡ record { slots = set shelf.slots slot (record { taken = true; tried = tried; envelope = envelope.now }) } }
 {
-    let mut taken = shelf.taken;
-    taken[slot] = true;
-    let mut all = shelf.tried;
-    all[slot] = tried;
-    let before = shelf.envelopes;
-    let envelopes = with_envelope(before, slot, envelope);
-    Shelf {
-        taken,
-        tried: all,
-        envelopes,
-    }
+    let mut next = shelf;
+    let place = &mut next.slots[slot];
+    place.taken = true;
+    place.tried = tried;
+    place.envelope.copy_from_slice(envelope);
+    next
 }
 
 // Frees the slot whose number the merger gave back.
-fn freed_slot(taken: [bool; 33], free: Free) -> [bool; 33]
-    requires { IsSlot free }
-    ensures { result ≡ cleared free taken }
+fn clear_slot(slots: &mut [Slot], free: Option<u64>)
+    requires fact_1 { IsSlot free }
+    requires fact_2 { length slots.old ≡ shelf_slots }
+    ensures { slots.new ≡ cleared_slots free slots.old }
 {
-    match free {
-        Free::Nothing => taken,
-        Free::Number(slot) => {
-            let mut next = taken;
-            next[slot as usize] = false;
-            next
-        }
+    if let Some(slot) = free {
+        slots[slot as usize].taken = false;
     }
 }
 
@@ -101,37 +86,24 @@ fn freed_slot(taken: [bool; 33], free: Free) -> [bool; 33]
 pub fn without(shelf: Shelf, freed: Freed) -> Shelf
     requires fact_1 { IsSlot freed.primary }
     requires fact_2 { IsSlot freed.alternate }
-    ensures { result ≡ record { taken = cleared freed.alternate (cleared freed.primary shelf.taken); tried = shelf.tried; envelopes = shelf.envelopes } }
+    ensures { result ≡ record { slots = cleared_slots freed.alternate (cleared_slots freed.primary shelf.slots) } }
 {
-    let first = freed.primary;
-    let second = freed.alternate;
-    let all = shelf.taken;
-    let one = freed_slot(all, first);
-    let taken = freed_slot(one, second);
-    let tried = shelf.tried;
-    let envelopes = shelf.envelopes;
-    Shelf {
-        taken,
-        tried,
-        envelopes,
-    }
+    let mut next = shelf;
+    clear_slot(&mut next.slots, freed.primary);
+    clear_slot(&mut next.slots, freed.alternate);
+    next
 }
 
 // Counts the numbers that a place gave back: one or none.
-fn how_many_free(free: Free) -> u64
+fn how_many_free(free: Option<u64>) -> u64
     ensures { result ≡ count_free free }
 {
-    match free {
-        Free::Nothing => 0,
-        Free::Number(_) => 1,
-    }
+    u64::from(free.is_some())
 }
 
 // Counts the numbers that a position gave back: at most one for each stream.
 pub fn how_many(freed: Freed) -> u64
     ensures { result ≡ count_freed freed }
 {
-    let first = freed.primary;
-    let second = freed.alternate;
-    how_many_free(first) + how_many_free(second)
+    how_many_free(freed.primary) + how_many_free(freed.alternate)
 }

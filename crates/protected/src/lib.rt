@@ -7,91 +7,92 @@
 
 #![tactic(auto)]
 
-ghost use Rattle.std.specs.Prelude.{◌≡◌, ◌||◌, ℕ, ◌<◌, get_or, length, ltb, eqb};
+ghost use Rattle.std.specs.Prelude.{Bool, ◌≡◌, ◌||◌, ℕ, ◌<◌, get_or, ltb, eqb, is_some, IfSome};
+ghost use Rattle.bits.specs.Alls.{all_below};
 ghost use Rattle.protected_rules.specs.Table.{count, odd_fits, even_fits, each_once, admits};
 
-pub use protected_code::{coded_apart, convolution, inverse};
+pub use protected_code::{coded_apart, convolution, inverse, inverse_input};
 pub use protected_input::{checksum_in, checksum_of, input_of};
+use protected_rules::Table;
 pub use protected_word::{front_of, payload_of, protected, write_protected};
 
+// Tells whether a test holds at each number below n.
+fn holds_below<F: Fn(usize) -> bool>(n: usize, test: F) -> bool
+    requires { (k : ℕ) → k < n → F.pre test k }
+    ensures { (t : ℕ → Bool) × ((k : ℕ) → k < n → F.post test k (t k)) × (result ≡ all_below n t) }
+{
+    let mut all = true;
+    for k in 0..n {
+        all &= test(k);
+    }
+    all
+}
+
 // Counts how often each number stands in the table.
-fn occurrences(table: &[u8]) -> [u8; 256]
-    requires { length table.now ≡ 188 }
-    ensures { (k : ℕ) → k < 256 → get_or result k 0 ≡ count k table.now }
+fn occurrences(entries: &[u8; 188]) -> [u8; 256]
+    ensures { (k : ℕ) → k < 256 → get_or result k 0 ≡ count k entries.now }
 {
     let mut seen = [0u8; 256];
-    for i in 0..188usize {
-        let e = bits::wide(table[i]);
-        seen[e] += 1;
+    for entry in entries {
+        seen[usize::from(*entry)] += 1;
     }
     seen
 }
 
 // Tells whether every odd entry is below 176.
-fn odd_fit(table: &[u8]) -> bool
-    requires { length table.now ≡ 188 }
-    ensures { result ≡ odd_fits table.now }
+fn odd_fit(entries: &[u8; 188]) -> bool
+    ensures { result ≡ odd_fits entries.now }
 {
-    let mut fit = true;
-    for t in 0..94usize {
-        if table[2 * t + 1] >= 176 {
-            fit = false;
-        }
-    }
-    fit
+    holds_below(94, |t| entries[2 * t + 1] < 176)
 }
 
 // Tells whether an even entry is below 176, or is 255 and names no coded bit.
-fn even_entry(e: u8) -> bool
-    ensures { result ≡ (ltb e 176 || eqb e 255) }
+fn even_entry(entry: u8) -> bool
+    ensures { result ≡ (ltb entry 176 || eqb entry 255) }
 {
-    if e < 176 {
-        return true;
-    }
-    e == 255
+    entry < 176 || entry == 255
 }
 
 // Tells whether every even entry is below 176 or is 255.
-fn even_fit(table: &[u8]) -> bool
-    requires { length table.now ≡ 188 }
-    ensures { result ≡ even_fits table.now }
+fn even_fit(entries: &[u8; 188]) -> bool
+    ensures { result ≡ even_fits entries.now }
 {
-    let mut fit = true;
-    for t in 0..94usize {
-        if !even_entry(table[2 * t]) {
-            fit = false;
-        }
-    }
-    fit
+    holds_below(94, |t| even_entry(entries[2 * t]))
 }
 
 // Tells whether each number from 0 to 175 stands in the table exactly once.
-fn each_once(table: &[u8]) -> bool
-    requires { length table.now ≡ 188 }
-    ensures { result ≡ each_once table.now }
+fn each_once(entries: &[u8; 188]) -> bool
+    ensures { result ≡ each_once entries.now }
 {
-    let seen = occurrences(table);
-    let mut once = true;
-    for k in 0..176usize {
-        if seen[k] != 1 {
-            once = false;
-        }
+    let seen = occurrences(entries);
+    holds_below(176, |k| seen[k] == 1)
+}
+
+// Tells whether 188 bytes keep document 01's rules.
+fn keeps_rules(entries: &[u8; 188]) -> bool
+    ensures { result ≡ admits entries.now }
+{
+    odd_fit(entries) && even_fit(entries) && each_once(entries)
+}
+
+// Makes a table of lent bytes, where they are admitted, their number included.
+pub fn table_of(bytes: &[u8]) -> Option<Table>
+    ensures admitted { is_some result ≡ admits bytes.now }
+    ensures same { IfSome result (λ table. table.entries ≡ bytes.now) }
+{
+    let Ok(entries) = <&[u8; 188]>::try_from(bytes) else {
+        return None;
+    };
+    if keeps_rules(entries) {
+        Some(Table { entries: *entries })
+    } else {
+        None
     }
-    once
 }
 
 // Tells whether the table is admitted, its length included.
 pub fn admitted(table: &[u8]) -> bool
     ensures { result ≡ admits table.now }
 {
-    if table.len() != 188 {
-        return false;
-    }
-    if !odd_fit(table) {
-        return false;
-    }
-    if !even_fit(table) {
-        return false;
-    }
-    each_once(table)
+    table_of(table).is_some()
 }

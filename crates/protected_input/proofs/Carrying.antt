@@ -3,19 +3,17 @@
 use mathlib.Core.Bool.{cond}
 use mathlib.Core.List.{List}
 use mathlib.Core.Path.{◌≡◌, refl, sym, ap, ◌∙◌}
-use Prim.Native.Nat.{ℕ, ◌+◌, ◌-◌, ◌*◌, ◌/◌, ◌%◌, ◌<◌, ◌≤◌}
+use Prim.Native.Nat.{ℕ, ◌+◌, ◌-◌, ◌<◌, ◌≤◌}
 use native.Mathlib.Decide.{ℕ_discrete, dec_lt}
 use native.Mathlib.Omega.{arith}
-use lib.Dec.{ltb, lit<}
+use lib.Dec.{ltb}
 use lib.ListN.{length, get_or, set, replicate, length-set, get_or-replicate}
 use lib.Seq.{get_or-set_same, get_or-set_other}
 use Rattle.bits.specs.Bit.{digit, bit_lo}
 use Rattle.bits.proofs.Computed.{same_below}
-use Rattle.bits.proofs.Conds.{cond_lt, cond_ge, cond_both}
-use Rattle.bits.proofs.Digits.{digit_lt}
+use Rattle.bits.proofs.Conds.{cond_lt, cond_ge}
 use Rattle.bits.proofs.Tabs.{past_end, is_tab}
 use Rattle.protected_rules.specs.Checksum.{checksum, positions, position, input_bit, input_of, checksum_for}
-use Rattle.protected_rules.specs.Convolution.{Input}
 use Rattle.protected_rules.specs.Table.{index_of}
 use Rattle.protected_rules.proofs.InputBits.{crc8_ext, index_position, index_first}
 use Rattle.protected_input.specs.Carrying.{carried_bit, Carried}
@@ -59,14 +57,6 @@ module _ (p x : List ℕ) (n v : ℕ) (c : Carried p x n) (h : n < 78) (e : v �
   carried_more = record { long = length-set x (4 + n) v ∙ c.long; at = λ k. stored k (ℕ_discrete k (4 + n)) }
 
 module _ (p x : List ℕ) (c : Carried p x 78) where
-  pub carried_input : Input x
-  carried_input = record { long = c.long; bits = record { at = λ k. rw (c.at k) (small k) } }
-    where
-      small : (k : ℕ) → carried_bit p 78 k < 2
-      small k =
-          cond_both (λ (v : ℕ). v < 2) (ltb k 4) 0 _ (lit< tt)
-          (cond_both (λ (v : ℕ). v < 2) (ltb k 82) (bit_lo p (k - 4)) 0 (digit_lt (get_or p ((k - 4) / 8) 0) ((k - 4) % 8)) (lit< tt))
-
   pub carried_sum : checksum_for x ≡ checksum p
   carried_sum =
       crc8_ext (λ i. get_or x (4 + i) 0) (bit_lo p) (λ i h.

@@ -3,7 +3,7 @@
 use mathlib.Core.Bool.{Bool, true, false, cond}
 use mathlib.Core.List.{List, [], ◌∷◌}
 use mathlib.Core.Path.{◌≡◌, refl, sym, ap, ap₂, ◌∙◌}
-use Prim.Native.Nat.{ℕ, zero, suc, ◌+◌, ◌-◌, ◌*◌, ◌/◌, ◌%◌, ◌<◌, ◌≤◌}
+use Prim.Native.Nat.{ℕ, zero, suc, ◌+◌, ◌*◌, ◌/◌, ◌%◌, ◌<◌, ◌≤◌}
 use native.Mathlib.Nat.{mod-lt, not-suc-le-zero, le_of_suc-le-suc}
 use native.Mathlib.Omega.{arith}
 use lib.Bits.{bit_xor, xor_lt, xor_self}
@@ -147,3 +147,7 @@ module _ (table : List ℕ) (a : Admitted table) (x : List ℕ) (i : Input x) wh
 pub apart_self : (c : List ℕ) → coded_apart c c ≡ 0
 unfolding coded_apart
 apart_self c = sum_zero 176 (λ k. bit_xor (get_or c k 0) (get_or c k 0)) (λ k h. xor_self (get_or c k 0))
+
+-- 94 bits are an input
+pub input_of_bits : (x : List ℕ) → Bits x → length x ≡ 94 → Input x
+input_of_bits x b l = record { long = l; bits = b }

@@ -7,3 +7,4 @@ pub mod Taps
 pub mod Turns
 pub mod WordBits
 pub mod WordMeaning
+pub mod Arrays

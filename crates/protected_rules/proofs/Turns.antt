@@ -1,27 +1,23 @@
 -- Turns of the loops: one law for each loop's step.
 -- Assumes nothing.
-use mathlib.Core.Bool.{Bool, cond}
+use mathlib.Core.Bool.{cond}
 use mathlib.Core.List.{List, [], ◌∷◌, ◌++◌}
 use mathlib.Core.Path.{◌≡◌, refl, sym, ap, ap₂, ◌∙◌}
-use Prim.Native.Nat.{ℕ, ◌+◌, ◌-◌, ◌*◌, ◌/◌, ◌%◌, ◌<◌, ◌≤◌}
+use Prim.Native.Nat.{ℕ, ◌+◌, ◌*◌, ◌/◌, ◌%◌, ◌<◌, ◌≤◌}
 use native.Mathlib.Nat.{not-suc-le-zero, zero-add, add-zero, add_assoc}
 use native.Mathlib.Numerals.{add-one}
 use native.Mathlib.Decide.{ℕ_discrete}
 use native.Mathlib.Omega.{arith}
-use lib.Dec.{ltb, eqb, ltb→lt, lit<}
-use lib.ListN.{length, get_or, take, drop, set, length-take, length-drop, length-set}
-use lib.Seq.{take-suc, take_all, get_or-drop, get_or-set_same, get_or-set_other}
-use Rattle.bits.specs.Bit.{bit_lo, tab, Bits}
-use Rattle.bits.proofs.Belows.{below_tab, below_drop}
-use Rattle.bits.proofs.Computed.{below}
+use lib.Dec.{ltb, eqb, lit<}
+use lib.ListN.{length, get_or, take, set, length-take, length-set}
+use lib.Seq.{take-suc, get_or-set_same, get_or-set_other}
+use Rattle.bits.specs.Bit.{tab}
 use Rattle.bits.proofs.Conds.{cond_both, cond_eq, cond_ne}
-use Rattle.bits.proofs.Digits.{digit_lt}
 use Rattle.bits.proofs.Tabs.{length_tab, tab_at, is_tab}
 use Rattle.protected_rules.specs.Table.{count, index_of, Admitted}
-use Rattle.protected_rules.specs.Checksum.{crc8_step, crc8_run, then_zeros, crc8_of, checksum, position, checksum_for}
-use Rattle.protected_rules.specs.Convolution.{Input, parity_of, state_after, register, even_mask, odd_mask, entry_bit, convolved, inverse_bit, inverse_state}
+use Rattle.protected_rules.specs.Checksum.{crc8_step, crc8_run, then_zeros}
+use Rattle.protected_rules.specs.Convolution.{parity_of, state_after, register, even_mask, odd_mask, entry_bit, convolved, inverse_bit, inverse_state}
 use Rattle.protected_rules.proofs.CodedBits.{index_of_lem, index_found}
-use Rattle.protected_rules.proofs.InputBits.{crc8_ext}
 
 -- ---- counting
 
@@ -68,22 +64,8 @@ pub crc8_turn : (f : ℕ → ℕ) (n : ℕ) {q q' : ℕ} → q ≡ crc8_run f n 
 unfolding crc8_run
 crc8_turn f n e h = rw add-one (h ∙ ap (λ (x : ℕ). crc8_step x (f n)) e)
 
-pub then_zeros_lt : (d : List ℕ) (i : ℕ) → Bits d → then_zeros (λ (k : ℕ). get_or d k 0) i < 2
-then_zeros_lt d i h = cond_both (λ (v : ℕ). v < 2) (ltb i 78) (get_or d i 0) 0 (h.at i) (lit< tt)
-
--- ---- the part of an input from bit 4 on
-
-module _ (x : List ℕ) (i : Input x) where
-  from_four : take (length x - 4) (drop 4 x) ≡ drop 4 x
-  from_four = take_all (length x - 4) (drop 4 x) (simp length-drop (omega arith))
-
-  pub part_bits : (78 ≤ length (take (length x - 4) (drop 4 x))) × Bits (take (length x - 4) (drop 4 x))
-  part_bits = rw from_four (simp length-drop (omega (arith, i.long)), below_drop 4 x i.bits)
-
-  pub part_crc : crc8_of (λ k. get_or (take (length x - 4) (drop 4 x)) k 0) ≡ checksum_for x
-  part_crc =
-      crc8_ext (λ k. get_or (take (length x - 4) (drop 4 x)) k 0) (λ k. get_or x (4 + k) 0)
-      (λ k h. ap (λ (l : List ℕ). get_or l k 0) from_four ∙ get_or-drop 4 x k 0)
+pub then_zeros_lt : (f : ℕ → ℕ) (i : ℕ) → ((k : ℕ) → f k < 2) → then_zeros f i < 2
+then_zeros_lt f i h = cond_both (λ (v : ℕ). v < 2) (ltb i 78) (f i) 0 (h i) (lit< tt)
 
 -- ---- the code
 

@@ -1,4 +1,5 @@
 pub mod Table
+pub mod OneProof
 pub mod StandIn
 pub mod Convolution
 pub mod Checksum

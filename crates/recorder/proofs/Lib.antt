@@ -1,4 +1,1 @@
-pub mod Slots
-pub mod Shares
-pub mod Stepping
 pub mod Histories

@@ -1,39 +1,34 @@
-// Lays what is asked of the frames of a push into lent memory, one frame behind the other.
-ghost use Rattle.std.specs.Prelude.{length, take};
-ghost use Rattle.recorder_asks.specs.Asks.{making_of, need_of};
-ghost use Rattle.recorder_rules.specs.Steps.{LaidBy, Fitting, laid_none};
-ghost use Rattle.sync_call_rules.specs.Calls.{slots};
+// Lays what is asked of a frame into lent memory, behind what is there.
+ghost use Rattle.std.specs.Prelude.{◌≡◌, ℕ, ◌*◌};
+ghost use Rattle.recorder_asks.specs.Asks.{making_of, share_of};
+ghost use Rattle.recorder_asks.proofs.Making.{asked_sequential, asked_three};
 
-use journal_rules::Earlier;
-use recorder_asks::Asked;
-use recorder_frames::lay_frame;
+use recorder_asks::{Asked, need_of};
 use recorder_rules::Laid;
-use recorder_steps::slot;
+use recorder_steps::Lays;
 use sync_rules::Head;
 
-// Lays what is asked of the frames of a push, which follow an earlier one: `count` of them, their heads by value, their envelopes in the room's slots.
-pub(crate) fn lay_frames(
-    asked: Asked,
-    earlier: Earlier,
-    heads: [Head; 3],
-    count: usize,
-    room: &[u8],
-    table: &[u8],
-    out: &mut [u8],
-) -> Laid
-    requires { Fitting (need_of asked) heads count (length room.now) (length out.old) }
-    ensures { LaidBy (making_of asked table.now) out.old out.new (laid_none earlier) (slots (take count heads) room.now 0) result }
-{
-    let mut laid = Laid {
-        size: 0,
-        accepted: 0,
-        earlier,
-    };
-    let mut k = 0;
-    while k < count {
-        let head = heads[k];
-        laid = lay_frame(asked, laid, head, slot(room, k), table, &mut *out);
-        k += 1;
+// What is asked of frames, and the table that they are decoded with, which is not looked at where they stay untried.
+#[derive(Clone, Copy)]
+pub struct Asking<'a> {
+    pub asked: Asked,
+    pub table: &'a [u8],
+}
+
+impl<'a> Lays for Asking<'a> {
+    ghost making = { λ it. making_of it.asked it.table.now };
+
+    ghost share = { λ it. share_of it.asked };
+
+    fn need(&self) -> usize {
+        need_of(self.asked)
     }
-    laid
+
+    fn lay_frame(&self, before: Laid, head: Head, envelope: &[u8], out: &mut [u8]) -> Laid {
+        recorder_frames::lay_frame(self.asked, before, head, envelope, self.table, out)
+    }
+
+    ghost sequential = { λ it. asked_sequential it.asked it.table.now };
+
+    ghost three = { λ it. asked_three it.asked it.table.now };
 }

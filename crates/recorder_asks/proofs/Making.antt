@@ -1,22 +1,22 @@
 -- What is asked goes through frames one after the other, and each frame has its share of the memory.
 -- Assumes nothing.
+use Rattle.std.proofs.Common.{Option}
 use mathlib.Core.Path.{◌≡◌, refl, subst}
 use mathlib.Core.Bool.{Bool, true, false}
-use mathlib.Core.List.{List}
-use Prim.Native.Nat.{ℕ, ◌+◌, ◌*◌, ◌≤◌, ◌<◌}
+use mathlib.Core.List.{List, [], ◌∷◌}
+use Prim.Native.Nat.{ℕ, ◌+◌, ◌*◌, ◌≤◌}
 use native.Mathlib.Omega.{arith}
 use lib.ListN.{length}
 use Rattle.bits.specs.Alls.{All}
 use Rattle.frame_outcomes.specs.Outcomes.{tried_of}
 use Rattle.frame_outcomes.proofs.Fairness.{tried_fair}
-use Rattle.journal_rules.specs.declared.Earlier.{Earlier}
 use Rattle.recorder_rules.specs.Makings.{Trying, Sequential, WholeFrame, FairTrying, untried, journal, frames_of}
 use Rattle.recorder_rules.specs.Steps.{LaidBy}
 use Rattle.recorder_rules.specs.declared.Laid.{Laid}
 use Rattle.recorder_rules.proofs.Laying.{journal_sequential, pieces_few, records_long, whole_sized}
 use Rattle.recorder_asks.proofs.Speaking.{speaking_sequential, speech_few}
 use Rattle.sync_call_rules.specs.Calls.{Got}
-use Rattle.recorder_asks.specs.Asks.{speaking, making_of, share_of, need_of, is_speech, is_decoded, tried_as}
+use Rattle.recorder_asks.specs.Asks.{speaking, making_of, share_of, is_speech, is_decoded, tried_as}
 use Rattle.recorder_asks.specs.declared.Asked.{Asked}
 use Rattle.recorder_asks.specs.declared.Asked.TheVariants.{Untried, Decoded, Speech}
 
@@ -25,12 +25,6 @@ asked_sequential Untried table = journal_sequential untried
 asked_sequential Decoded table = journal_sequential (tried_of table)
 asked_sequential Speech table = speaking_sequential table
 
--- what it may need fits in the memory that programs lend
-pub asked_need : (a : Asked) (table : List ℕ) → (making_of a table).need ≤ 768
-asked_need Untried table = omega arith
-asked_need Decoded table = omega arith
-asked_need Speech table = omega arith
-
 -- what a record says of an envelope the journal takes
 pub as_fair : (decoded : Bool) (table : List ℕ) → FairTrying (tried_as decoded table)
 as_fair true table envelope = tried_fair table envelope
@@ -38,31 +32,25 @@ as_fair false table envelope = refl
 
 -- ---- shares
 
-records_few : (try : Trying) (e : Earlier) (gs : List Got) → All WholeFrame gs → length ((journal try).bytes e gs) ≤ 128 * length gs
+records_few : (try : Trying) (e : Option ℕ) (gs : List Got) → All WholeFrame gs → length ((journal try).bytes e gs) ≤ 128 * length gs
 records_few try e gs w = omega (arith, records_long e (frames_of try gs) (whole_sized try gs w), pieces_few try e gs)
 
-pub made_few : (a : Asked) (table : List ℕ) (e : Earlier) (gs : List Got) → All WholeFrame gs → length ((making_of a table).bytes e gs) ≤ share_of a * length gs
+made_few : (a : Asked) (table : List ℕ) (e : Option ℕ) (gs : List Got) → All WholeFrame gs → length ((making_of a table).bytes e gs) ≤ share_of a * length gs
 made_few Untried table e gs w = records_few untried e gs w
 made_few Decoded table e gs w = records_few (tried_of table) e gs w
 made_few Speech table e gs w = speech_few table e gs
 
-pub need_is : (a : Asked) (table : List ℕ) → (making_of a table).need ≡ need_of a
-need_is Untried table = refl
-need_is Decoded table = refl
-need_is Speech table = refl
-
--- where n of three frames are laid there is room for another
-pub share_more : (a : Asked) (n : ℕ) → n < 3 → share_of a * n + share_of a ≤ need_of a
-share_more Untried n h = omega arith
-share_more Decoded n h = omega arith
-share_more Speech n h = omega arith
-
-pub share_less : (a : Asked) (n k : ℕ) → n ≤ k → share_of a * n ≤ share_of a * k
-share_less Untried n k h = omega arith
-share_less Decoded n k h = omega arith
-share_less Speech n k h = omega arith
+-- three shares are what the frames of a push may need
+pub asked_three : (a : Asked) (table : List ℕ) → (making_of a table).need ≡ 3 * share_of a
+asked_three Untried table = refl
+asked_three Decoded table = refl
+asked_three Speech table = refl
 
 -- ---- what is laid of a frame
+
+-- a frame takes no more than its share
+pub laid_few : (a : Asked) (table out left : List ℕ) (before after : Laid) (g : Got) → WholeFrame g → LaidBy (making_of a table) out left before (g ∷ []) after → after.size ≤ before.size + share_of a
+laid_few a table out left before after g w l = omega (arith, l.size, made_few a table before.earlier (g ∷ []) (w, tt))
 
 pub records_share : (a : Asked) → 128 ≤ share_of a
 records_share Untried = omega arith

@@ -1,6 +1,6 @@
 -- What is made of frames, by what is asked: records, untried or decoded with a table, or the lines of their speech.
 -- Assumes nothing.
-use Rattle.std.specs.Prelude.{Bool, true, false, cond, List, ℕ}
+use Rattle.std.specs.Prelude.{Bool, true, false, cond, List, ℕ, Result, Ok, Err}
 use Rattle.bits.specs.Refusals.{number_of}
 use Rattle.frame_outcomes.specs.Outcomes.{tried_of}
 use Rattle.journal_rules.specs.Gaps.{Piece, pieces_from}
@@ -9,22 +9,18 @@ use Rattle.journal_rules.specs.declared.Body.TheVariants.{Frame, Gap}
 use Rattle.lines_rules.specs.Text.{gap_text, speech_text, refused_text}
 use Rattle.recorder_rules.specs.Makings.{Making, Trying, untried, journal, frames_of, rendered, is_accepted}
 use Rattle.voice_rules.specs.Calls.{decode_answer}
-use Rattle.voice_rules.specs.declared.Decoded.{Decoded}
-use Rattle.voice_rules.specs.declared.Decoding.{Decoding}
-use Rattle.voice_rules.specs.declared.Decoding.TheVariants.{Accepted, Refused}
+use Rattle.bits.specs.declared.Refusal.{Refusal}
+use Rattle.voice_rules.specs.declared.Speech.{Speech}
 use Rattle.recorder_asks.specs.declared.Asked.{Asked}
 use Rattle.recorder_asks.specs.declared.Asked.TheVariants as asked
 
 -- ---- the lines of speech
 
--- the line of a frame at an offset by an answer with that payload: `speech`, its offset, its corrected bits and its payload; or `refused`, its offset and
--- the refusal's number
-abbrev pub answered_text : ℕ → Decoding → List ℕ → List ℕ
-answered_text offset (Accepted stage n) payload = speech_text offset n payload
-answered_text offset (Refused x) payload = refused_text offset (number_of x)
-
-abbrev pub decoded_text : ℕ → Decoded → List ℕ
-decoded_text offset d = answered_text offset d.decoding d.payload
+-- the line of a frame at an offset by the decoder's answer: `speech`, its offset, its corrected bits and its payload; or `refused`, its offset and the
+-- refusal's number
+abbrev pub decoded_text : ℕ → Result Speech Refusal → List ℕ
+decoded_text offset (Ok s) = speech_text offset s.corrected s.payload
+decoded_text offset (Err x) = refused_text offset (number_of x)
 
 -- the line of an entry, its envelope decoded with the table; "A gap prints `gap`, offset, length"
 abbrev pub spoken_body : List ℕ → ℕ → Body → List ℕ → List ℕ

@@ -5,8 +5,9 @@
 ghost use Rattle.std.specs.Prelude.{◌≡◌};
 ghost use Rattle.recorder_asks.specs.Asks.{need_of, is_speech, is_decoded};
 
+// kept: a value that a caller hands in, by what may not change: `recorder::step` and the promises of the tasks are over it. Inside, `Asking` lays by it.
 // Says what is made of frames: their records, untried; their records, decoded with a table; or the lines of their speech.
-#[derive(Clone, Copy)]
+#[derive(Clone, Copy, PartialEq, Eq)]
 pub enum Asked {
     Untried,
     Decoded,
@@ -18,8 +19,7 @@ pub fn need_of(asked: Asked) -> usize
     ensures { result ≡ need_of asked }
 {
     match asked {
-        Asked::Untried => 384,
-        Asked::Decoded => 384,
+        Asked::Untried | Asked::Decoded => 384,
         Asked::Speech => 768,
     }
 }
@@ -28,20 +28,12 @@ pub fn need_of(asked: Asked) -> usize
 pub fn is_speech(asked: Asked) -> bool
     ensures { result ≡ is_speech asked }
 {
-    match asked {
-        Asked::Untried => false,
-        Asked::Decoded => false,
-        Asked::Speech => true,
-    }
+    asked == Asked::Speech
 }
 
 // Tells whether records are asked that say what the decoder answers.
 pub fn is_decoded(asked: Asked) -> bool
     ensures { result ≡ is_decoded asked }
 {
-    match asked {
-        Asked::Untried => false,
-        Asked::Decoded => true,
-        Asked::Speech => false,
-    }
+    asked == Asked::Decoded
 }

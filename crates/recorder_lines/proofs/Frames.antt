@@ -1,5 +1,6 @@
 -- What is laid of one frame.
 -- Assumes nothing.
+use Rattle.std.proofs.Common.{Option, Some, None}
 use mathlib.Core.Bool.{Bool, false, cond}
 use mathlib.Core.List.{List, [], ◌∷◌, ◌++◌, append-nil}
 use mathlib.Core.Path.{◌≡◌, refl, sym, ap, ap₂, ◌∙◌}
@@ -8,10 +9,6 @@ use native.Mathlib.Omega.{arith}
 use lib.ListN.{length, length-append}
 use lib.Seq.{sets}
 use Rattle.journal_rules.specs.Gaps.{Piece, gap_to, gap_pieces, piece_of, pieces_from}
-use Rattle.journal_rules.specs.declared.Between.{Between}
-use Rattle.journal_rules.specs.declared.Between.TheVariants.{NoGap, Gap as OneGap}
-use Rattle.journal_rules.specs.declared.Earlier.{Earlier}
-use Rattle.journal_rules.specs.declared.Earlier.TheVariants.{At}
 use Rattle.lines_rules.specs.Entries.{listed_text, between_text}
 use Rattle.lines_rules.specs.Slips.{slip_line_text}
 use Rattle.lines_rules.proofs.Lengths.{frame_short, between_short, slip_short}
@@ -25,10 +22,11 @@ use Rattle.recorder_lines.specs.Wants.{making_of}
 use Rattle.lines_laying.specs.Wants.{wanted_gap, wanted_line}
 use Rattle.lines_laying.specs.declared.Wanted.{Wanted}
 use Rattle.lines_laying.specs.declared.Wanted.TheVariants.{Listing, Slips}
+use Rattle.journal_rules.specs.declared.Entry.{Entry}
 
 -- ---- how long its lines are
 
-pub gap_few : (w : Wanted) (e : Earlier) (next : ℕ) → length (wanted_gap w e next) ≤ 128
+pub gap_few : (w : Wanted) (e : Option ℕ) (next : ℕ) → length (wanted_gap w e next) ≤ 128
 gap_few Listing e next = omega (arith, between_short (gap_to e next))
 gap_few Slips e next = omega arith
 
@@ -38,13 +36,13 @@ line_few Slips h = omega (arith, slip_short h)
 
 -- ---- what is made of it
 
-listed_behind : (b : Between) (p : Piece) → rendered listed_text (gap_pieces b ++ (p ∷ [])) ≡ between_text b ++ listed_text p
+listed_behind : (b : Option Entry) (p : Piece) → rendered listed_text (gap_pieces b ++ (p ∷ [])) ≡ between_text b ++ listed_text p
 unfolding rendered
-listed_behind NoGap p = append-nil (listed_text p)
-listed_behind (OneGap e) p = ap (λ (l : List ℕ). between_text (OneGap e) ++ l) (append-nil (listed_text p))
+listed_behind None p = append-nil (listed_text p)
+listed_behind (Some e) p = ap (λ (l : List ℕ). between_text (Some e) ++ l) (append-nil (listed_text p))
 
 -- the gap's line, then its own
-made_of_one : (w : Wanted) (e : Earlier) (g : Got) → (making_of w).bytes e (g ∷ []) ≡ wanted_gap w e g.head.offset ++ wanted_line w g.head
+made_of_one : (w : Wanted) (e : Option ℕ) (g : Got) → (making_of w).bytes e (g ∷ []) ≡ wanted_gap w e g.head.offset ++ wanted_line w g.head
 unfolding frames_of pieces_from slip_lines
 made_of_one Listing e g = listed_behind (gap_to e g.head.offset) (piece_of (framed_of untried g))
 made_of_one Slips e g = append-nil (slip_line_text g.head)
@@ -62,7 +60,7 @@ module _ (w : Wanted) (out mid left : List ℕ) (before : Laid) (h : Head) (behi
 
   -- both lines put, one behind the other
   pub one_laid : behind ≡ before.size + length gap → mid ≡ sets out before.size gap → size ≡ behind + length line → left ≡ sets mid behind line
-      → (envelope : List ℕ) → LaidBy (making_of w) out left before (record { head = h; envelope = envelope } ∷ []) (record { size = size; accepted = before.accepted; earlier = At h.offset })
+      → (envelope : List ℕ) → LaidBy (making_of w) out left before (record { head = h; envelope = envelope } ∷ []) (record { size = size; accepted = before.accepted; earlier = Some h.offset })
   unfolding earlier_after accepted_in
   one_laid at first end second envelope =
       let made = made_of_one w before.earlier (record { head = h; envelope = envelope }) in

@@ -1,3 +1,1 @@
 pub mod Frames
-pub mod Pushes
-pub mod Steps

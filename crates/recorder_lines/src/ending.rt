@@ -25,6 +25,7 @@ fn slips_end(sync: Synchroniser) -> Line
     slips_end_line(sync.frames(), sync.slips(), sync.net_slip())
 }
 
+// kept: a match on `Wanted`, by what may not change: `step`, `last_line` and the promises of the tasks take it from the caller as a value.
 // Makes the last line: of a listing `end FRAMES SLIPS PENDING`, of the slips `end FRAMES SLIPS NETSLIP`.
 pub fn last_line(wanted: Wanted, sync: Synchroniser) -> Line
     requires { ValidSynchroniser sync }

@@ -1,5 +1,6 @@
 -- A record laid at its place; a gap's, and a frame's behind it.
 -- Assumes nothing.
+use Rattle.std.proofs.Common.{Option, Some, None, Result}
 use mathlib.Core.Path.{◌≡◌, refl, sym, ap, ap₂, ◌∙◌, subst}
 use mathlib.Core.Bool.{true, cond, ◌&&◌}
 use mathlib.Core.List.{List, [], ◌∷◌, ◌++◌, append_assoc, append-nil}
@@ -12,15 +13,10 @@ use lib.ListN.{length, take, drop, replicate, length-append, length-replicate}
 use lib.Seq.{sets, sets-eq}
 use Rattle.bits.specs.BigEndian.{big_endian}
 use Rattle.bits.specs.Sizes.{frame_bits, most_offset}
-use Rattle.bits.specs.declared.Writing.{Writing}
 use Rattle.bits.proofs.BigEndians.{length_big}
 use Rattle.bits.proofs.Conds.{cond_cases}
-use Rattle.journal_rules.specs.declared.Between.{Between}
-use Rattle.journal_rules.specs.declared.Between.TheVariants.{NoGap, Gap as OneGap}
 use Rattle.journal_rules.specs.declared.Body.{Body}
 use Rattle.journal_rules.specs.declared.Body.TheVariants.{Frame, Gap}
-use Rattle.journal_rules.specs.declared.Earlier.{Earlier}
-use Rattle.journal_rules.specs.declared.Earlier.TheVariants.{Nothing, At}
 use Rattle.journal_rules.specs.declared.Entry.{Entry}
 use Rattle.journal_rules.specs.declared.Figures.{Figures}
 use Rattle.journal_rules.specs.Gaps.{piece_of, gap_after, gap_to, gap_pieces, pieces_from}
@@ -32,6 +28,7 @@ use Rattle.recorder_rules.specs.Makings.{Trying, framed_of, frames_of, earlier_a
 use Rattle.recorder_rules.specs.Steps.{LaidBy}
 use Rattle.recorder_rules.specs.declared.Laid.{Laid}
 use Rattle.recorder_rules.proofs.Laying.{rendered_append}
+use Rattle.bits.specs.declared.Refusal.{Refusal}
 
 -- ---- one record
 
@@ -41,12 +38,12 @@ record_long o (Gap n) envelope s =
     omega (arith, length-append (big_endian 8 o) (body_bytes (Gap n) envelope), length_big 8 o, length-append (big_endian 8 n) (replicate 40 0), length_big 8 n, length-replicate {A = ℕ} 40 0)
 
 -- what a write into 64 bytes leaves of the whole
-pub put_record : (out : List ℕ) (at : ℕ) (e : Entry) (envelope after : List ℕ) (w : Writing) → at + 64 ≤ length out → Wrote 64 e envelope (mid_of at (at + 64 - at) out) w after
+pub put_record : (out : List ℕ) (at : ℕ) (e : Entry) (envelope after : List ℕ) (w : Result Unit Refusal) → at + 64 ≤ length out → Wrote 64 e envelope (mid_of at (at + 64 - at) out) w after
     → size_fits e.body (length envelope) ≡ true → allowed e ≡ true → put_mid at (at + 64 - at) out after ≡ sets out at (record_of e envelope)
 put_record out at e envelope after w h wrote s g =
     let m = mid_of at (at + 64 - at) out in
     let n : length m ≡ 64 = mid_len at (at + 64) out h ∙ omega arith in
-    let is : after ≡ record_of e envelope = wrote.left ∙ ap (λ (x : Writing). left_by x (record_of e envelope) m) (else_written 64 e envelope m s (ap₂ ◌&&◌ (eq-eqb _ _ n) g)) in
+    let is : after ≡ record_of e envelope = wrote.left ∙ ap (λ (x : Result Unit Refusal). left_by x (record_of e envelope) m) (else_written 64 e envelope m s (ap₂ ◌&&◌ (eq-eqb _ _ n) g)) in
     let k : length (record_of e envelope) ≡ 64 = record_long e.offset e.body envelope s in
     ap₂ (λ (x y : List ℕ). take at out ++ (x ++ y)) is (Post-is at (at + 64) out (omega arith))
     ∙ sym (sets-eq (record_of e envelope) out at (omega arith) ∙ append_assoc (take at out) (record_of e envelope) (drop (at + length (record_of e envelope)) out)
@@ -55,10 +52,10 @@ put_record out at e envelope after w h wrote s g =
 -- ---- a gap
 
 -- it lies at or below the frame's offset, so that the journal takes it
-gap_ends : (earlier : Earlier) (next : ℕ) (e : Entry) → next ≤ most_offset → gap_to earlier next ≡ OneGap e → (allowed e ≡ true) × (size_fits e.body 0 ≡ true)
-gap_ends Nothing next e h q = let z : ◌≡◌ {A = ℕ} 0 1 = cc in absurd (omega arith)
-gap_ends (At o) next e h q =
-    cond_cases (λ (b : Between). b ≡ OneGap e → (allowed e ≡ true) × (size_fits e.body 0 ≡ true)) (ltb (o + frame_bits) next) (OneGap (gap_after o next)) NoGap
+gap_ends : (earlier : Option ℕ) (next : ℕ) (e : Entry) → next ≤ most_offset → gap_to earlier next ≡ Some e → (allowed e ≡ true) × (size_fits e.body 0 ≡ true)
+gap_ends None next e h q = let z : ◌≡◌ {A = ℕ} 0 1 = cc in absurd (omega arith)
+gap_ends (Some o) next e h q =
+    cond_cases (λ (b : Option Entry). b ≡ Some e → (allowed e ≡ true) × (size_fits e.body 0 ≡ true)) (ltb (o + frame_bits) next) (Some (gap_after o next)) None
     (λ t r. let n = next - (o + frame_bits) in
     let far = ltb-true (o + frame_bits) next t in
     let same : gap_after o next ≡ e = cc in
@@ -66,21 +63,21 @@ gap_ends (At o) next e h q =
     (λ t r. let z : ◌≡◌ {A = ℕ} 0 1 = cc in absurd (omega arith))
     q
 
-pub gap_allowed : (earlier : Earlier) (next : ℕ) (e : Entry) → next ≤ most_offset → gap_to earlier next ≡ OneGap e → allowed e ≡ true
+pub gap_allowed : (earlier : Option ℕ) (next : ℕ) (e : Entry) → next ≤ most_offset → gap_to earlier next ≡ Some e → allowed e ≡ true
 gap_allowed earlier next e h q = (gap_ends earlier next e h q).0
 
-pub gap_sized : (earlier : Earlier) (next : ℕ) (e : Entry) → next ≤ most_offset → gap_to earlier next ≡ OneGap e → size_fits e.body 0 ≡ true
+pub gap_sized : (earlier : Option ℕ) (next : ℕ) (e : Entry) → next ≤ most_offset → gap_to earlier next ≡ Some e → size_fits e.body 0 ≡ true
 gap_sized earlier next e h q = (gap_ends earlier next e h q).1
 
-pub no_gap : (b : Between) (at : ℕ) (out : List ℕ) → b ≡ NoGap → (at ≡ at + length (records_of (gap_pieces b))) × ((at ≤ at + 64) × (out ≡ sets out at (records_of (gap_pieces b))))
+pub no_gap : (b : Option Entry) (at : ℕ) (out : List ℕ) → b ≡ None → (at ≡ at + length (records_of (gap_pieces b))) × ((at ≤ at + 64) × (out ≡ sets out at (records_of (gap_pieces b))))
 unfolding rendered
-no_gap b at out q = let e : records_of (gap_pieces b) ≡ [] = ap (λ (x : Between). records_of (gap_pieces x)) q in (omega (arith, ap length e), (omega arith, sym (ap (sets out at) e)))
+no_gap b at out q = let e : records_of (gap_pieces b) ≡ [] = ap (λ (x : Option Entry). records_of (gap_pieces x)) q in (omega (arith, ap length e), (omega arith, sym (ap (sets out at) e)))
 
-pub one_gap : (b : Between) (e : Entry) (at size : ℕ) (out left : List ℕ) → b ≡ OneGap e → size_fits e.body 0 ≡ true → size ≡ at + 64 → left ≡ sets out at (record_of e [])
+pub one_gap : (b : Option Entry) (e : Entry) (at size : ℕ) (out left : List ℕ) → b ≡ Some e → size_fits e.body 0 ≡ true → size ≡ at + 64 → left ≡ sets out at (record_of e [])
     → (size ≡ at + length (records_of (gap_pieces b))) × ((size ≤ at + 64) × (left ≡ sets out at (records_of (gap_pieces b))))
 unfolding rendered
 one_gap b e at size out left q s es el =
-    let is : records_of (gap_pieces b) ≡ record_of e [] = ap (λ (x : Between). records_of (gap_pieces x)) q ∙ append-nil (record_of e []) in
+    let is : records_of (gap_pieces b) ≡ record_of e [] = ap (λ (x : Option Entry). records_of (gap_pieces x)) q ∙ append-nil (record_of e []) in
     (omega (arith, ap length is, record_long e.offset e.body [] s), (omega arith, el ∙ ap (sets out at) (sym is)))
 
 -- ---- a frame, behind the gap before it
@@ -91,7 +88,7 @@ frame_allowed o f h k m = ap₂ ◌&&◌ (ap₂ ◌&&◌ (le-leb f.errors 48 k) 
 pub laid_one : (try : Trying) (out mid left : List ℕ) (before after : Laid) (g : Got) (at : ℕ) → length g.envelope ≡ 48
     → at ≡ before.size + length (records_of (gap_pieces (gap_to before.earlier g.head.offset))) → mid ≡ sets out before.size (records_of (gap_pieces (gap_to before.earlier g.head.offset)))
     → after.size ≡ at + 64 → left ≡ sets mid at (record_bytes (piece_of (framed_of try g)))
-    → after.accepted ≡ before.accepted + cond (is_accepted (try g.envelope).outcome) 1 0 → after.earlier ≡ At g.head.offset → LaidBy (journal try) out left before (g ∷ []) after
+    → after.accepted ≡ before.accepted + cond (is_accepted (try g.envelope).outcome) 1 0 → after.earlier ≡ Some g.head.offset → LaidBy (journal try) out left before (g ∷ []) after
 unfolding pieces_from frames_of earlier_after accepted_in rendered
 laid_one try out mid left before after g at w ea em es el ec ee =
     let gap = gap_pieces (gap_to before.earlier g.head.offset) in

@@ -10,7 +10,7 @@ ghost use Rattle.journal_rules.specs.Record.{entry_at, allowed, size_fits, recor
 ghost use Rattle.recorder_rules.specs.Makings.{Trying, journal, records_of, is_accepted};
 ghost use Rattle.recorder_rules.specs.Steps.{LaidBy, Writable};
 
-use journal::{Between, Body, Earlier, Entry, Figures, Outcome, Tried};
+use journal::{Body, Entry, Figures, Outcome, Tried};
 use recorder_rules::Laid;
 use sync_rules::Head;
 
@@ -23,22 +23,21 @@ fn put_entry(entry: Entry, envelope: &[u8], at: usize, out: &mut [u8]) -> usize
     ensures stored { out.new ≡ sets out.old at (record_of entry envelope.now) }
 {
     let end = at + 64;
-    journal::write(entry, envelope, &mut out[at..end]);
+    let _ = journal::write(entry, envelope, &mut out[at..end]);
     end
 }
 
 // Lays the record of the gap before a frame at the offset `next`, if there is one, at byte `at`, and gives where it ends.
-fn put_gap(earlier: Earlier, next: u64, at: usize, out: &mut [u8]) -> usize
+fn put_gap(earlier: Option<u64>, next: u64, at: usize, out: &mut [u8]) -> usize
     requires fact_1 { next ≤ most_offset }
     requires fact_2 { at + 64 ≤ length out.old }
     ensures size { result ≡ at + length (records_of (gap_pieces (gap_to earlier next))) }
     ensures few { result ≤ at + 64 }
     ensures stored { out.new ≡ sets out.old at (records_of (gap_pieces (gap_to earlier next))) }
 {
-    let between = journal::gap_to(earlier, next);
-    match between {
-        Between::NoGap => at,
-        Between::Gap(entry) => put_entry(entry, b"", at, out),
+    match journal::gap_to(earlier, next) {
+        None => at,
+        Some(entry) => put_entry(entry, b"", at, out),
     }
 }
 
@@ -46,11 +45,7 @@ fn put_gap(earlier: Earlier, next: u64, at: usize, out: &mut [u8]) -> usize
 pub fn accepted_by(outcome: Outcome) -> usize
     ensures { result ≡ cond (is_accepted outcome) 1 0 }
 {
-    match outcome {
-        Outcome::Untried => 0,
-        Outcome::Accepted => 1,
-        Outcome::Refused => 0,
-    }
+    usize::from(outcome == Outcome::Accepted)
 }
 
 // Gives the entry of a frame, of whose envelope `tried` is said.
@@ -58,16 +53,14 @@ fn frame_entry(head: Head, tried: Tried) -> Entry
     requires { head.errors ≤ 48 }
     ensures { result ≡ entry_at head.offset (Body.Frame (record { matched = head.matched; errors = head.errors; outcome = tried.outcome; corrected = tried.corrected })) }
 {
-    let outcome = tried.outcome;
-    let figures = Figures {
-        matched: head.matched,
-        errors: head.errors as u8,
-        outcome,
-        corrected: tried.corrected,
-    };
     Entry {
         offset: head.offset,
-        body: Body::Frame(figures),
+        body: Body::Frame(Figures {
+            matched: head.matched,
+            errors: head.errors as u8,
+            outcome: tried.outcome,
+            corrected: tried.corrected,
+        }),
     }
 }
 
@@ -80,14 +73,11 @@ pub fn put_frame(before: Laid, head: Head, tried: Tried, envelope: &[u8], out: &
     requires fact_5 { before.accepted < 3 }
     ensures { (try : Trying) → try envelope.now ≡ tried → LaidBy (journal try) out.old out.new before (record { head = head; envelope = envelope.now } ∷ []) result }
 {
-    let earlier = before.earlier;
-    let at = put_gap(earlier, head.offset, before.size, &mut *out);
-    let entry = frame_entry(head, tried);
-    let size = put_entry(entry, envelope, at, &mut *out);
-    let outcome = tried.outcome;
+    let at = put_gap(before.earlier, head.offset, before.size, &mut *out);
+    let size = put_entry(frame_entry(head, tried), envelope, at, &mut *out);
     Laid {
         size,
-        accepted: before.accepted + accepted_by(outcome),
-        earlier: Earlier::At(head.offset),
+        accepted: before.accepted + accepted_by(tried.outcome),
+        earlier: Some(head.offset),
     }
 }

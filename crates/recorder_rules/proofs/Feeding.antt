@@ -1,5 +1,6 @@
 -- What a feed of packed bytes sends: frames that fit the room, whose records the journal takes, and what a step makes of them.
 -- Assumes nothing.
+use Rattle.std.proofs.Common.{Option, Some, None}
 use mathlib.Core.Path.{◌≡◌, refl, sym, ap, ◌∙◌, subst}
 use mathlib.Core.Bool.{Bool, true, false, cond}
 use mathlib.Core.List.{List, [], ◌∷◌, ◌++◌, append-nil}
@@ -12,8 +13,6 @@ use lib.Seq.{sets, length-sets}
 use Rattle.bits.specs.Alls.{All}
 use Rattle.bits.specs.Bit.{Bits}
 use Rattle.bits.specs.Sizes.{most_offset}
-use Rattle.journal_rules.specs.declared.Earlier.{Earlier}
-use Rattle.journal_rules.specs.declared.Earlier.TheVariants.{Nothing, At}
 use Rattle.sync.specs.View.{ValidSynchroniser, view}
 use Rattle.sync.specs.declared.Synchroniser.{Synchroniser}
 use Rattle.sync.specs.declared.Fed.{Fed}
@@ -85,11 +84,11 @@ heads_good (suc n) (f ∷ fs) e c h l w zero i = record { ends = omega (arith, o
 heads_good (suc n) (f ∷ fs) e c h l w (suc k) i = heads_good n fs (f.offset + 384) c (omega arith) l w.1.1 k (omega arith)
 
 -- the last of them ends before the clock
-ends_before : (e : ℕ) (a : Earlier) (fs : List Frame) (c : ℕ) → EndsBy e a → Onward e fs c → EndsBy c (earlier_after a (shown_as fs))
+ends_before : (e : ℕ) (a : Option ℕ) (fs : List Frame) (c : ℕ) → EndsBy e a → Onward e fs c → EndsBy c (earlier_after a (shown_as fs))
 unfolding earlier_after shown_as
-ends_before e Nothing [] c b w = tt
-ends_before e (At o) [] c b w = omega arith
-ends_before e a (f ∷ fs) c b w = ends_before (f.offset + 384) (At f.offset) fs c (omega arith) w.1.1
+ends_before e None [] c b w = tt
+ends_before e (Some o) [] c b w = omega arith
+ends_before e a (f ∷ fs) c b w = ends_before (f.offset + 384) (Some f.offset) fs c (omega arith) w.1.1
 
 -- every envelope has its 48 bytes
 pub shown_whole : (fs : List Frame) → All WholeFrame (shown_as fs)

@@ -1,5 +1,6 @@
 -- A step goes on: what it uses, what it lays, and when it is refused.
 -- Assumes nothing.
+use Rattle.std.proofs.Common.{Ok, Err}
 use mathlib.Core.Path.{◌≡◌, refl, sym, ap, ◌∙◌, subst}
 use mathlib.Core.Logic.{⊎_elim}
 use mathlib.Core.Bool.{Bool, true, false, cond}
@@ -19,7 +20,6 @@ use Rattle.sync_call_rules.proofs.Feeding.{feed_rules_lem}
 use Rattle.sync_call_rules.proofs.Histories.{fed_fits}
 use Rattle.sync_call_rules.proofs.Shown.{shown_length}
 use Rattle.sync_inputs.specs.Answers.{answer_by, answer_to, takes}
-use Rattle.sync_inputs.specs.declared.Push.TheVariants.{Taken, Refused}
 use Rattle.sync_rules.specs.Pushes.{run}
 use Rattle.sync_rules.specs.Sizes.{room_size, most_dibits}
 use Rattle.sync_rules.specs.State.{State, Input, hard}
@@ -52,11 +52,11 @@ made_fits p s size xs r = go (ltb 0 (length gs)) refl
 
 -- ---- with a room, a dibit is refused at 2^40 dibits alone
 
-only_end : (x : Input) (m : State) (f : Refusal) → x.dibit < 4 → answer_to room_size x m ≡ Refused f → (f ≡ StreamEnd) × (most_dibits ≤ m.figures.taken)
+only_end : (x : Input) (m : State) (f : Refusal) → x.dibit < 4 → answer_to room_size x m ≡ Err f → (f ≡ StreamEnd) × (most_dibits ≤ m.figures.taken)
 unfolding answer_to answer_by takes
 only_end x m f d e = go (ltb 3 x.dibit) (leb most_dibits m.figures.taken) (le-ltb 3 x.dibit (omega arith)) refl e
   where
-    go : (a b : Bool) → a ≡ false → leb most_dibits m.figures.taken ≡ b → cond a (Refused Dibit) (cond (ltb room_size room_size) (Refused FrameRoom) (cond b (Refused StreamEnd) Taken)) ≡ Refused f → (f ≡ StreamEnd) × (most_dibits ≤ m.figures.taken)
+    go : (a b : Bool) → a ≡ false → leb most_dibits m.figures.taken ≡ b → cond a (Err Dibit) (cond (ltb room_size room_size) (Err FrameRoom) (cond b (Err StreamEnd) (Ok (tt {0})))) ≡ Err f → (f ≡ StreamEnd) × (most_dibits ≤ m.figures.taken)
     go true b q p w = let z : ◌≡◌ {A = ℕ} 0 1 = cc in absurd (omega arith)
     go false true q p w = ((cc), leb-true most_dibits m.figures.taken p)
     go false false q p w = absurd (omega (arith, ap takes w))
@@ -76,7 +76,7 @@ module _ (p : Making) (size : ℕ) (large : p.need ≤ size) (xs : List Input) (
   o = feed_of p size xs r
 
   -- a feed stops at the end or after a push that sent, and both are behind its first dibit
-  some_used : 0 < length xs → o.answer ≡ Taken → (k : ℕ) → o.used ≡ k → 0 < k
+  some_used : 0 < length xs → o.answer ≡ Ok tt → (k : ℕ) → o.used ≡ k → 0 < k
   some_used h e zero u =
       let rule = feed_rules_lem (room_for p.need size) xs (view r.sync) in
       let z : length o.sent ≡ 0 = ap length (rule.sent ∙ none_sent_lem xs (view r.sync) o.used u) in
@@ -90,7 +90,7 @@ module _ (p : Making) (size : ℕ) (large : p.need ≤ size) (xs : List Input) (
   some_used h e (suc k) u = omega arith
 
   -- a feed is refused as its next dibit is
-  refused_end : (f : Refusal) → o.answer ≡ Refused f → (f ≡ StreamEnd) × (most_dibits ≤ o.next.figures.taken)
+  refused_end : (f : Refusal) → o.answer ≡ Err f → (f ≡ StreamEnd) × (most_dibits ≤ o.next.figures.taken)
   unfolding takes
   refused_end f e =
       let rule = feed_rules_lem (room_for p.need size) xs (view r.sync) in

@@ -1,12 +1,12 @@
 -- A history of steps: its recorder, the dibits that it pushed, and its bytes.
 -- Assumes nothing.
+use Rattle.std.proofs.Common.{Option}
 use mathlib.Core.Path.{◌≡◌, refl, sym, ap, ap₂, ◌∙◌}
 use mathlib.Core.List.{List, [], ◌∷◌, ◌++◌, append_assoc}
 use Prim.Native.Nat.{ℕ, ◌+◌, ◌≤◌}
 use native.Mathlib.Omega.{arith}
 use lib.ListN.{length, take, drop, take-append-drop}
 use lib.Seq.{sets, sets-eq, take_at, take-append-le}
-use Rattle.journal_rules.specs.declared.Earlier.{Earlier}
 use Rattle.sync.specs.View.{view}
 use Rattle.sync_call_rules.specs.Calls.{Got, shown_as}
 use Rattle.sync_call_rules.proofs.Feeding.{feed_rules_lem}
@@ -97,10 +97,10 @@ module _ (p : Making) (q : Sequential p) where
       let B = got_from c.answer.next cs in
       let all : got_from r (c ∷ cs) ≡ A ++ B = got_more r c cs s in
       record {
-        earlier = g.earlier ∙ ap (λ (e : Earlier). earlier_after e B) s.earlier ∙ sym (earlier_append r.earlier A B) ∙ ap (earlier_after r.earlier) (sym all);
+        earlier = g.earlier ∙ ap (λ (e : Option ℕ). earlier_after e B) s.earlier ∙ sym (earlier_append r.earlier A B) ∙ ap (earlier_after r.earlier) (sym all);
         accepted = omega (arith, s.accepted, g.accepted, accepted_append p.accepts A B, ap (accepted_in p.accepts) all);
         bytes =
-            ap₂ (λ (a b : List ℕ). a ++ b) (step_bytes p q r c s) (g.bytes ∙ ap (λ (e : Earlier). p.bytes e B) s.earlier)
+            ap₂ (λ (a b : List ℕ). a ++ b) (step_bytes p q r c s) (g.bytes ∙ ap (λ (e : Option ℕ). p.bytes e B) s.earlier)
             ∙ sym (q.more r.earlier A B) ∙ ap (p.bytes r.earlier) (sym all);
       }
 

@@ -1,5 +1,6 @@
 -- The journal of the frames that a history of steps sends: no break, nothing refused, and each record reads back.
 -- Assumes nothing.
+use Rattle.std.proofs.Common.{Option, Some, None}
 use mathlib.Core.Path.{◌≡◌, refl, ap, ap₂, ◌∙◌, subst}
 use mathlib.Core.Bool.{true, ◌&&◌}
 use mathlib.Core.List.{List, [], ◌∷◌, ◌++◌}
@@ -14,10 +15,6 @@ use Rattle.bits.proofs.Belows.{below_none}
 use Rattle.bits.proofs.Conds.{cond_both}
 use Rattle.journal_rules.specs.Gaps.{Framed, Piece, piece_of, gap_after, gap_to, gap_pieces, pieces_from, pieces_of, Spaced, last_of, AllFair, AllAllowed}
 use Rattle.journal_rules.specs.Record.{size_fits}
-use Rattle.journal_rules.specs.declared.Between.{Between}
-use Rattle.journal_rules.specs.declared.Between.TheVariants.{NoGap, Gap as OneGap}
-use Rattle.journal_rules.specs.declared.Earlier.{Earlier}
-use Rattle.journal_rules.specs.declared.Earlier.TheVariants.{Nothing, At}
 use Rattle.journal_rules.proofs.Gapless.{unchanged, writable}
 use Rattle.journal_rules.proofs.RoundTrips.{written_reads}
 use Rattle.sync.specs.View.{view}
@@ -37,6 +34,7 @@ use Rattle.recorder_rules.proofs.Laying.{Sized, whole_sized, records_long}
 use Rattle.recorder_rules.proofs.Rising.{Onward, Dibits, run_goes}
 use Rattle.recorder_rules.proofs.Feeding.{packed_dibits, dibits_taken, shown_whole}
 use Rattle.recorder_rules.proofs.Histories.{leads}
+use Rattle.journal_rules.specs.declared.Entry.{Entry}
 
 -- ---- frames that go onward
 
@@ -77,14 +75,14 @@ module _ (try : Trying) where
 abbrev FitsPiece : Piece → Type 0
 FitsPiece p = size_fits p.entry.body (length p.envelope) ≡ true
 
-gap_sized : (e : Earlier) (next : ℕ) (rest : List Piece) → All FitsPiece rest → All FitsPiece (gap_pieces (gap_to e next) ++ rest)
-gap_sized Nothing next rest a = a
-gap_sized (At o) next rest a = cond_both (λ (b : Between). All FitsPiece (gap_pieces b ++ rest)) (ltb (o + frame_bits) next) (OneGap (gap_after o next)) NoGap (refl, a) a
+gap_sized : (e : Option ℕ) (next : ℕ) (rest : List Piece) → All FitsPiece rest → All FitsPiece (gap_pieces (gap_to e next) ++ rest)
+gap_sized None next rest a = a
+gap_sized (Some o) next rest a = cond_both (λ (b : Option Entry). All FitsPiece (gap_pieces b ++ rest)) (ltb (o + frame_bits) next) (Some (gap_after o next)) None (refl, a) a
 
-pub pieces_sized : (e : Earlier) (fs : List Framed) → Sized fs → All FitsPiece (pieces_from e fs)
+pub pieces_sized : (e : Option ℕ) (fs : List Framed) → Sized fs → All FitsPiece (pieces_from e fs)
 unfolding pieces_from
 pieces_sized e [] s = tt
-pieces_sized e (f ∷ fs) s = gap_sized e f.place (piece_of f ∷ pieces_from (At f.place) fs) (eq-eqb (length f.bytes) 48 s.0, pieces_sized (At f.place) fs s.1)
+pieces_sized e (f ∷ fs) s = gap_sized e f.place (piece_of f ∷ pieces_from (Some f.place) fs) (eq-eqb (length f.bytes) 48 s.0, pieces_sized (Some f.place) fs s.1)
 
 pub all_read : (ps : List Piece) → All FitsPiece ps → AllAllowed ps → AllRead ps
 all_read [] s a = tt
@@ -120,6 +118,6 @@ journal_rule_lem p try t r f cs h =
       apart = apart try fs (state_after xs).figures.clock on;
       frames = unchanged (framed try fs);
       allowed = allowed;
-      reads = all_read (pieces_of (framed try fs)) (pieces_sized Nothing (framed try fs) sized) allowed;
-      size = records_long Nothing (framed try fs) sized;
+      reads = all_read (pieces_of (framed try fs)) (pieces_sized None (framed try fs) sized) allowed;
+      size = records_long None (framed try fs) sized;
     }

@@ -1,5 +1,6 @@
 -- Steps one behind the other through an input, and through one input behind another: what a program's loops add to.
 -- Assumes nothing.
+use Rattle.std.proofs.Common.{None}
 use mathlib.Core.Path.{◌≡◌, refl, sym, ap, ◌∙◌, subst}
 use mathlib.Core.List.{List, [], ◌∷◌, ◌++◌, append_assoc, append-nil}
 use Prim.Native.Nat.{ℕ, zero, suc, ◌+◌, ◌≤◌}
@@ -10,7 +11,6 @@ use Rattle.sync.specs.View.{view}
 use Rattle.sync_inputs.specs.Inputs.{hardly, unpacked}
 use Rattle.sync_rules.specs.Counts.{state_after}
 use Rattle.sync_rules.specs.State.{Input}
-use Rattle.journal_rules.specs.declared.Earlier.TheVariants.{Nothing}
 use Rattle.recorder_rules.specs.Makings.{Making, accepted_in}
 use Rattle.recorder_rules.specs.Steps.{dibits_of, SteppedBy}
 use Rattle.recorder_rules.specs.Calls.{Called, lent_to, Meets, History, state_of, pushed_by, accepted_by, frames_for, Through, rest_of, Made, Gone}
@@ -140,7 +140,7 @@ whole_input_lem p q r s f ds accepted g =
     let cs = g.steps in
     let all : pushed_by cs ≡ ds = sym (append-nil (pushed_by cs)) ∙ ap (λ (l : List Input). pushed_by cs ++ l) (sym g.left) ∙ cut_anywhere_lem p r cs g.history ds g.through in
     let made = steps_make_lem p q r f cs g.history in (
-      made.bytes ∙ ap (λ (xs : List Input). p.bytes Nothing (frames_for xs)) all,
+      made.bytes ∙ ap (λ (xs : List Input). p.bytes None (frames_for xs)) all,
       sym g.counts ∙ made.accepted ∙ ap (λ (xs : List Input). accepted_in p.accepts (frames_for xs)) all,
       ap (λ (z : Recorder). view z.sync) (sym g.there) ∙ made.next ∙ ap state_after all,
     )

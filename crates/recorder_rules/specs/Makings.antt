@@ -1,11 +1,9 @@
 -- What a program makes of the frames that the synchroniser sends: bytes, in their order, each frame's behind those of the gap before it.
 -- Assumes nothing.
-use Rattle.std.specs.Prelude.{◌≡◌, Bool, true, false, cond, List, [], ◌∷◌, ◌++◌, ℕ, ◌+◌, ◌≤◌, length}
+use Rattle.std.specs.Prelude.{◌≡◌, Bool, true, false, cond, List, [], ◌∷◌, ◌++◌, ℕ, ◌+◌, ◌≤◌, length, Option, Some}
 use Rattle.bits.specs.Alls.{All}
 use Rattle.journal_rules.specs.Gaps.{Framed, Piece, pieces_from}
 use Rattle.journal_rules.specs.Record.{record_of, may_correct}
-use Rattle.journal_rules.specs.declared.Earlier.{Earlier}
-use Rattle.journal_rules.specs.declared.Earlier.TheVariants.{At}
 use Rattle.journal_rules.specs.declared.Outcome.{Outcome}
 use Rattle.journal_rules.specs.declared.Outcome.TheVariants.{Untried, Accepted, Refused}
 use Rattle.journal_rules.specs.declared.Tried.{Tried}
@@ -37,9 +35,9 @@ frames_of try [] = []
 frames_of try (g ∷ gs) = framed_of try g ∷ frames_of try gs
 
 -- the frame before the next one, once the frames gs have gone out
-unfoldable pub earlier_after : Earlier → List Got → Earlier
+unfoldable pub earlier_after : Option ℕ → List Got → Option ℕ
 earlier_after e [] = e
-earlier_after e (g ∷ gs) = earlier_after (At g.head.offset) gs
+earlier_after e (g ∷ gs) = earlier_after (Some g.head.offset) gs
 
 -- ---- their bytes
 
@@ -64,7 +62,7 @@ slip_lines (g ∷ gs) = slip_line_text g.head ++ slip_lines gs
 
 -- The bytes made of frames that follow an earlier one, whether an envelope counts as accepted, and how many bytes the three frames of a push may need.
 pub record Making : Type 0 where
-  pub bytes : Earlier → List Got → List ℕ
+  pub bytes : Option ℕ → List Got → List ℕ
   pub accepts : List ℕ → Bool
   pub need : ℕ
 
@@ -98,9 +96,9 @@ WholeFrame g = length g.envelope ≡ 48
 
 -- it goes through frames one after the other, and three of them fit
 pub record Sequential (p : Making) : Type 0 where
-  pub none : (e : Earlier) → p.bytes e [] ≡ []
-  pub more : (e : Earlier) (gs hs : List Got) → p.bytes e (gs ++ hs) ≡ p.bytes e gs ++ p.bytes (earlier_after e gs) hs
-  pub fits : (e : Earlier) (gs : List Got) → All WholeFrame gs → length gs ≤ 3 → length (p.bytes e gs) ≤ p.need
+  pub none : (e : Option ℕ) → p.bytes e [] ≡ []
+  pub more : (e : Option ℕ) (gs hs : List Got) → p.bytes e (gs ++ hs) ≡ p.bytes e gs ++ p.bytes (earlier_after e gs) hs
+  pub fits : (e : Option ℕ) (gs : List Got) → All WholeFrame gs → length gs ≤ 3 → length (p.bytes e gs) ≤ p.need
 
 -- "12 corrected bits 0-32, zero unless accepted"
 abbrev pub FairTrying : Trying → Type 0

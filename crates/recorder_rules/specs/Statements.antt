@@ -1,8 +1,6 @@
 -- What holds of any history of steps, and of the journal of a stream. "A gap you cannot see is a surface you invented."
 -- Assumes nothing.
-use Rattle.std.specs.Prelude.{◌≡◌, List, [], ◌∷◌, ◌++◌, ℕ, ◌*◌, length}
-use Rattle.journal_rules.specs.declared.Earlier.TheVariants.{Nothing}
-use Rattle.journal_rules.specs.declared.Reading.TheVariants.{Holds}
+use Rattle.std.specs.Prelude.{◌≡◌, List, [], ◌∷◌, ◌++◌, ℕ, ◌*◌, length, None, Ok}
 use Rattle.journal_rules.specs.Record.{record_of}
 use Rattle.journal_rules.specs.Reading.{read_of}
 use Rattle.journal_rules.specs.Gaps.{Framed, Piece, pieces_of, pieces_alone, frames_in, Spaced, AllAllowed}
@@ -20,7 +18,7 @@ pub use Rattle.recorder_rules.specs.Steps.{step_rules}
 pub record Fresh (r : Recorder) : Type 0 where
   pub valid : ValidRecorder r
   pub nothing : view r.sync ≡ start
-  pub earlier : r.earlier ≡ Nothing
+  pub earlier : r.earlier ≡ None
 
 -- a journal, whatever is said of its frames, a listing and the slips are made frame by frame, and the frames of a push fit
 pub record MakingsSequential : Type 0 where
@@ -34,10 +32,10 @@ pub record MakingsSequential : Type 0 where
 pub record Recorded (p : Making) (r : Recorder) (cs : List Called) : Type 0 where
   pub valid : ValidRecorder (state_of r cs)
   pub next : view (state_of r cs).sync ≡ state_after (pushed_by cs)
-  pub earlier : (state_of r cs).earlier ≡ earlier_after Nothing (frames_for (pushed_by cs))
+  pub earlier : (state_of r cs).earlier ≡ earlier_after None (frames_for (pushed_by cs))
   pub accepted : accepted_by cs ≡ accepted_in p.accepts (frames_for (pushed_by cs))
   -- the bytes are what is made of exactly the frames that the synchroniser sends for the dibits pushed, in order
-  pub bytes : handed_out cs ≡ p.bytes Nothing (frames_for (pushed_by cs))
+  pub bytes : handed_out cs ≡ p.bytes None (frames_for (pushed_by cs))
 
 abbrev pub steps_make : Type 0
 steps_make = (p : Making) → Sequential p → (r : Recorder) → Fresh r → (cs : List Called) → History p r cs → Recorded p r cs
@@ -49,14 +47,14 @@ cut_anywhere = (p : Making) (r : Recorder) (cs : List Called) → History p r cs
 -- of an input through which the steps went without a rest: the bytes do not depend on the cuts
 abbrev pub whole_input : Type 0
 whole_input = (p : Making) → Sequential p → (r s : Recorder) → Fresh r → (ds : List Input) (accepted : ℕ) (g : Gone p r ds s [] accepted)
-    → (handed_out g.steps ≡ p.bytes Nothing (frames_for ds)) × (accepted ≡ accepted_in p.accepts (frames_for ds)) × (view s.sync ≡ state_after ds)
+    → (handed_out g.steps ≡ p.bytes None (frames_for ds)) × (accepted ≡ accepted_in p.accepts (frames_for ds)) × (view s.sync ≡ state_after ds)
 
 -- ---- the journal
 
 -- each record says its entry
 abbrev pub AllRead : List Piece → Type 0
 AllRead [] = Unit {0}
-AllRead (p ∷ ps) = (read_of 64 (record_of p.entry p.envelope) ≡ Holds p.entry) × AllRead ps
+AllRead (p ∷ ps) = (read_of 64 (record_of p.entry p.envelope) ≡ Ok p.entry) × AllRead ps
 
 -- the offset of each frame is at least 384 past the one before
 abbrev pub Apart : List Framed → Type 0

@@ -1,16 +1,13 @@
 -- What a step promises.
 -- Assumes nothing.
-use Rattle.std.specs.Prelude.{◌≡◌, cond, List, ℕ, ◌+◌, ◌≤◌, ◌<◌, ltb, length, get_or, drop}
+use Rattle.std.specs.Prelude.{◌≡◌, cond, List, ℕ, ◌+◌, ◌≤◌, ◌<◌, ltb, length, get_or, drop, Option, Some, None, Ok, Err}
 use Rattle.std.proofs.lemmas.List.Edits.{sets}
 use Rattle.bits.specs.Sizes.{frame_bits, most_offset}
 use Rattle.bits.specs.declared.Refusal.{Refusal}
 use Rattle.bits.specs.declared.Refusal.TheVariants.{StreamEnd}
-use Rattle.journal_rules.specs.declared.Earlier.{Earlier}
-use Rattle.journal_rules.specs.declared.Earlier.TheVariants.{Nothing, At}
 use Rattle.sync.specs.View.{view, ValidSynchroniser}
 use Rattle.sync_call_rules.specs.Calls.{Got, shown_as}
 use Rattle.sync_inputs.specs.Inputs.{hardly, unpacked}
-use Rattle.sync_inputs.specs.declared.Push.TheVariants.{Taken, Refused}
 use Rattle.sync_rules.specs.Frames.{no_head}
 use Rattle.sync_rules.specs.Sizes.{room_size, most_dibits}
 use Rattle.sync_rules.specs.State.{Input}
@@ -22,9 +19,9 @@ use Rattle.recorder_rules.specs.declared.Laid.{Laid}
 use Rattle.recorder_rules.specs.Makings.{Making, Sequential, earlier_after, accepted_in}
 
 -- the frame before ends at or below the clock
-abbrev pub EndsBy : ℕ → Earlier → Type 0
-EndsBy clock Nothing = Unit {0}
-EndsBy clock (At o) = o + frame_bits ≤ clock
+abbrev pub EndsBy : ℕ → Option ℕ → Type 0
+EndsBy clock None = Unit {0}
+EndsBy clock (Some o) = o + frame_bits ≤ clock
 
 -- a recorder that a start and further steps reach
 pub record ValidRecorder (r : Recorder) : Type 0 where
@@ -71,7 +68,7 @@ pub record LaidBy (p : Making) (out left : List ℕ) (before : Laid) (gs : List 
   pub stored : left ≡ sets out before.size (p.bytes before.earlier gs)
 
 -- nothing is laid yet
-abbrev pub laid_none : Earlier → Laid
+abbrev pub laid_none : Option ℕ → Laid
 laid_none e = record { size = 0; accepted = 0; earlier = e }
 
 -- a head whose frame's record the journal takes
@@ -92,8 +89,8 @@ pub record StepRule (p : Making) (out : List ℕ) (xs : List Input) (a : Stepped
   pub few : a.used ≤ length xs
   pub fits : a.size ≤ length out
   -- with memory enough, a step that is lent a dibit uses one, unless 2^40 dibits were taken before: that is the only refusal
-  pub goes_on : p.need ≤ length out → 0 < length xs → a.answer ≡ Taken → 0 < a.used
-  pub refused : p.need ≤ length out → (x : Refusal) → a.answer ≡ Refused x → (x ≡ StreamEnd) × (most_dibits ≤ (view a.next.sync).figures.taken)
+  pub goes_on : p.need ≤ length out → 0 < length xs → a.answer ≡ Ok tt → 0 < a.used
+  pub refused : p.need ≤ length out → (x : Refusal) → a.answer ≡ Err x → (x ≡ StreamEnd) × (most_dibits ≤ (view a.next.sync).figures.taken)
 
 abbrev pub step_rules : Type 0
 step_rules = (p : Making) → Sequential p → (r : Recorder) (bytes : List ℕ) (from : ℕ) (out left : List ℕ) (a : Stepped)

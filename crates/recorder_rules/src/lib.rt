@@ -9,14 +9,15 @@
 
 ghost use Rattle.recorder_rules.specs.Statements.{MakingsSequential, step_rules, steps_make, cut_anywhere, whole_input, journal_rule};
 
-use journal_rules::Earlier;
-use sync::{Push, Synchroniser};
+use bits::Refusal;
+use sync::Synchroniser;
 
 // Holds the synchroniser, and the frame before the next one.
+// kept: `ValidRecorder` is a clause and no ghost field, by what may not change: `recorder_steps::stepped` makes a recorder of whatever it is given.
 #[derive(Clone, Copy)]
 pub struct Recorder {
     pub sync: Synchroniser,
-    pub earlier: Earlier,
+    pub earlier: Option<u64>,
 }
 
 // Says how many dibits a step used, how many bytes it laid at the front of the lent memory, how many of its frames were accepted, and what the last push
@@ -26,7 +27,7 @@ pub struct Stepped {
     pub used: usize,
     pub size: usize,
     pub accepted: usize,
-    pub answer: Push,
+    pub answer: Result<(), Refusal>,
     pub next: Recorder,
 }
 
@@ -35,7 +36,7 @@ pub struct Stepped {
 pub struct Laid {
     pub size: usize,
     pub accepted: usize,
-    pub earlier: Earlier,
+    pub earlier: Option<u64>,
 }
 
 // What programs make of frames they make frame by frame.

@@ -1,4 +1,5 @@
-// What every step of a recording begins and ends with, whatever is made of its frames. Crates `recorder_lines` and `recorder` make lines and records of them.
+// The steps of a recording, whatever is made of its frames: laying.rt has the step, over a trait that says what is made; here is what every step begins and
+// ends with. Crates `recorder_lines` and `recorder` make lines and records of frames.
 
 #![tactic(auto)]
 
@@ -8,7 +9,9 @@ ghost use Rattle.recorder_rules.specs.Steps.{room_for};
 ghost use Rattle.sync_rules.specs.Sizes.{slot_size, room_size};
 ghost use Rattle.recorder_steps.specs.Ends.{stepped_of};
 
-use journal_rules::Earlier;
+mod laying;
+
+pub use laying::{Lays, step};
 use recorder_rules::{Laid, Recorder, Stepped};
 use sync::{Fed, Synchroniser};
 use sync_rules::{ROOM_SIZE, SLOT_SIZE};
@@ -17,10 +20,9 @@ use sync_rules::{ROOM_SIZE, SLOT_SIZE};
 pub fn start() -> Recorder
     ensures { Fresh result }
 {
-    let sync = Synchroniser::new();
     Recorder {
-        sync,
-        earlier: Earlier::Nothing,
+        sync: Synchroniser::new(),
+        earlier: None,
     }
 }
 
@@ -38,8 +40,7 @@ pub fn slot(room: &[u8], k: usize) -> &[u8]
     ensures { result.now ≡ take 48 (drop (slot_size * k) room.now) }
 {
     let at = SLOT_SIZE * k;
-    let end = at + 48;
-    &room[at..end]
+    &room[at..at + 48]
 }
 
 // Puts together what a step hands back: what the synchroniser answered, and what is laid of its frames.
@@ -47,15 +48,14 @@ pub fn stepped(fed: Fed, laid: Laid) -> Stepped
     ensures { result ≡ stepped_of fed laid }
 {
     let pushed = fed.pushed;
-    let sync = pushed.next;
-    let answer = pushed.answer;
-    let earlier = laid.earlier;
-    let next = Recorder { sync, earlier };
     Stepped {
         used: fed.used,
         size: laid.size,
         accepted: laid.accepted,
-        answer,
-        next,
+        answer: pushed.answer,
+        next: Recorder {
+            sync: pushed.next,
+            earlier: laid.earlier,
+        },
     }
 }

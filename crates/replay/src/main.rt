@@ -7,7 +7,7 @@
 // The crate `replay_list` reads the list and prints; a case is answered by its kind in `replay_voice` (1 to 11), `replay_sync` (12 to 14, 18 to 20) and
 // `replay_merger` (15 to 17).
 use merger::Merger;
-use replay_list::{Tally, case_after, input_of, judged, no_whole_case};
+use replay_list::{Tally, case_after, input_of, judged};
 use replay_merger::merger_case;
 use replay_sync::synchroniser_case;
 use replay_voice::coding_case;
@@ -17,7 +17,7 @@ use sync::Synchroniser;
 use sync_rules::ROOM_SIZE;
 
 // Runs the cases one after the other. Each is handed to the three that answer kinds, and two of them hand on the size of an answer that is not theirs.
-// A proved loop has to end, and nothing says that the input does: the turns are counted down, from a number that no run uses up.
+// A proved loop has to end, and nothing says that the input does: the turns are as many as no run uses up.
 fn replayed<R: Read, W: Write, C: Clock>(
     window: &mut [u8],
     table: &mut [u8],
@@ -29,17 +29,18 @@ fn replayed<R: Read, W: Write, C: Clock>(
 ) {
     let mut sync = Synchroniser::new();
     let mut merger = Merger::new();
-    let mut tabled: usize = 0;
-    let mut c = no_whole_case(0, 0);
+    let mut tabled = 0;
+    let mut before = None;
     let mut t = Tally {
         cases: 0,
         differences: 0,
-        going: true,
     };
-    let mut turns = u64::MAX;
-    while 0 < turns {
-        turns -= 1;
-        c = case_after(&mut *window, c, list, clock);
+    for _ in 0..u64::MAX {
+        let found = case_after(&mut *window, before, list, clock);
+        let Ok(c) = found else {
+            let _ = judged(t, &*window, found, &*out, None, to, clock);
+            return;
+        };
         let input = input_of(&*window, c);
         let one = coding_case(c.kind, &mut *table, tabled, input, &mut *out);
         tabled = one.table;
@@ -47,10 +48,11 @@ fn replayed<R: Read, W: Write, C: Clock>(
         sync = two.sync;
         let three = merger_case(c.kind, two.size, merger, input, &mut *out);
         merger = three.merger;
-        t = judged(t, &*window, c, &*out, three.size, to, clock);
-        if !t.going {
+        let Some(more) = judged(t, &*window, found, &*out, three.size, to, clock) else {
             return;
-        }
+        };
+        t = more;
+        before = Some(c);
     }
 }
 

@@ -3,12 +3,14 @@
 use mathlib.Core.Path.{◌≡◌, refl, sym, ap, ◌∙◌, subst}
 use mathlib.Core.List.{List, [], ◌∷◌, ◌++◌}
 use native.Mathlib.Decide.{dec_le}
-use Prim.Native.Nat.{ℕ, zero, suc, ◌+◌, ◌<◌, ◌≤◌, min}
+use Prim.Native.Nat.{ℕ, suc, ◌+◌, ◌<◌, ◌≤◌, min}
 use native.Mathlib.Nat.{add-zero, add-suc, suc-add}
 use native.Mathlib.Omega.{arith}
-use lib.ListN.{length, set, length-set, length-append}
-use lib.Seq.{sets, length-sets, set_out}
-use Rattle.replay_bytes.specs.Bytes.{Put}
+use native.Mathlib.Numerals.{add-one}
+use lib.ListN.{length, get_or, take, set, length-append}
+use lib.Seq.{sets, length-sets, set_out, take-suc}
+use Rattle.std.proofs.Common.{Option, Some, None}
+use Rattle.replay_bytes.specs.Bytes.{Put, PutSome}
 
 sets_append : (l xs ys : List ℕ) (i : ℕ) → sets l i (xs ++ ys) ≡ sets (sets l i xs) (i + length xs) ys
 sets_append l [] ys i = ap (λ (k : ℕ). sets l k ys) (sym (add-zero i))
@@ -34,6 +36,9 @@ put_none l place next e = record { holds = refl; goes_on = e ∙ ap (λ (k : ℕ
 pub put_as : {l : List ℕ} {place : ℕ} {xs ys m : List ℕ} {i : ℕ} → Put l place xs m i → xs ≡ ys → Put l place ys m i
 put_as {l} {place} {xs} {ys} {m} {i} p e = subst (λ (k : List ℕ). Put l place k m i) e p
 
+pub some_as : (o : Option ℕ) (l : List ℕ) (place : ℕ) (m : List ℕ) {xs ys : List ℕ} → PutSome l place xs m o → xs ≡ ys → PutSome l place ys m o
+some_as o l place m p e = subst (λ (k : List ℕ). PutSome l place k m o) e p
+
 -- the memory keeps its length
 pub same_long : {l : List ℕ} {place : ℕ} {xs m : List ℕ} {i : ℕ} → Put l place xs m i → length m ≡ length l
 same_long {l} {place} {xs} p = ap length p.holds ∙ length-sets l place xs
@@ -51,6 +56,16 @@ put_more {l} {place} {xs} {m} {i} {ys} {n} {j} p q =
           ∙ sym (sets_append l xs ys place);
       goes_on = omega (arith, length-append xs ys, p.goes_on, q.goes_on);
     }
+
+-- the same, where the place behind may be missing
+pub some_more : (o : Option ℕ) (ys n : List ℕ) {l : List ℕ} {place : ℕ} {xs m : List ℕ} {i : ℕ} → Put l place xs m i → PutSome m i ys n o → PutSome l place (xs ++ ys) n o
+some_more (Some j) ys n p q = put_more p q
+some_more None ys n p q = q
+
+-- the next byte of bytes that are put one after the other
+pub put_next : (bs : List ℕ) (k : ℕ) {l : List ℕ} {place : ℕ} {m : List ℕ} {i : ℕ} {n : List ℕ} {j : ℕ} → Put l place (take k bs) m i → k < length bs → Put m i (get_or bs k 0 ∷ []) n j
+    → Put l place (take (k + 1) bs) n j
+put_next bs k p h q = put_as (put_more p q) (sym (ap (λ (i : ℕ). take i bs) (add-one k) ∙ take-suc bs k 0 h))
 
 sets_cons : (x : ℕ) (l ys : List ℕ) (i : ℕ) → sets (x ∷ l) (suc i) ys ≡ x ∷ sets l i ys
 sets_cons x l [] i = refl

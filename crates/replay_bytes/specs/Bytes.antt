@@ -1,6 +1,6 @@
 -- The bytes of a case's answer (docs/REPLAY.md), and how they are put into lent memory.
 -- Assumes nothing.
-use Rattle.std.specs.Prelude.{◌≡◌, Bool, cond, List, [], ◌∷◌, ℕ, ◌+◌, ◌-◌, ◌<◌, min, ltb, ℤ, pos, negsuc, nat_abs, length, drop}
+use Rattle.std.specs.Prelude.{◌≡◌, Bool, cond, List, [], ◌∷◌, ℕ, ◌+◌, ◌-◌, ◌<◌, min, ltb, ℤ, pos, negsuc, nat_abs, length, drop, Option, Some, None}
 use Rattle.std.proofs.lemmas.List.Edits.{sets}
 use Rattle.std.specs.Int.Signed.{lt_z}
 use Rattle.bits.specs.BigEndian.{big_endian}
@@ -10,6 +10,11 @@ use Rattle.bits.specs.BigEndian.{big_endian}
 pub record Put (before : List ℕ) (place : ℕ) (bytes after : List ℕ) (next : ℕ) : Type 0 where
   pub holds : after ≡ sets before place bytes
   pub goes_on : next ≡ min (length before) (place + length bytes)
+
+-- bytes put so, where the place of the next byte may be missing: it is there
+abbrev pub PutSome : List ℕ → ℕ → List ℕ → List ℕ → Option ℕ → Type 0
+PutSome before place bytes after (Some n) = Put before place bytes after n
+PutSome before place bytes after None = ⊥
 
 -- a yes or no
 abbrev pub flag_byte : Bool → ℕ

@@ -14,25 +14,15 @@ use sync_rules::{Head, SLOT_SIZE};
 fn slot_bytes(soft: bool) -> usize
     ensures { result ≡ cond soft slot_size 48 }
 {
-    if soft {
-        return SLOT_SIZE;
-    }
-    48
+    if soft { SLOT_SIZE } else { 48 }
 }
 
 // Puts n bytes from `from` on, or as many as there are.
 fn put_part(out: &mut [u8], to: usize, bytes: &[u8], from: usize, n: usize) -> usize
     ensures { Put out.old to (take n (drop from bytes.now)) out.new result }
 {
-    let end = bytes.len();
-    if end <= from {
-        return put_all(out, to, &bytes[end..]);
-    }
-    if end - from < n {
-        return put_all(out, to, &bytes[from..]);
-    }
-    let next = from + n;
-    put_all(out, to, &bytes[from..next])
+    let rest = bytes.get(from..).unwrap_or(&[]);
+    put_all(out, to, &rest[..n.min(rest.len())])
 }
 
 // Puts what a synchroniser says of a frame.
@@ -41,7 +31,7 @@ pub fn put_head(out: &mut [u8], to: usize, head: Head) -> usize
 {
     let a = put_number(&mut *out, to, head.offset, 8);
     let b = put_flag(&mut *out, a, head.matched);
-    let c = put_number(&mut *out, b, head.errors as u64, 1);
+    let c = put_number(&mut *out, b, u64::from(head.errors), 1);
     let moves = head.moves;
     put_three(out, c, moves.front, moves.second, moves.third)
 }
@@ -67,14 +57,8 @@ pub fn put_frames(
     ensures { Put out.old to (frames_bytes count heads soft room.now) out.new result }
 {
     let mut length = put_number(&mut *out, to, count as u64, 1);
-    let mut k = 0;
-    while k < 3 {
-        if count <= k {
-            return length;
-        }
-        let head = heads[k];
-        length = put_frame(&mut *out, length, head, room, k, soft);
-        k += 1;
+    for k in 0..count.min(heads.len()) {
+        length = put_frame(&mut *out, length, heads[k], room, k, soft);
     }
     length
 }

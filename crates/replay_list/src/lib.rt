@@ -3,7 +3,7 @@
 
 #![tactic(auto)]
 
-pub use list::{Case, case_after, input_of, no_whole_case};
+pub use list::{Case, case_after, input_of};
 pub use tally::{Tally, judged};
 
 mod list;

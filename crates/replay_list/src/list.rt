@@ -1,5 +1,5 @@
 // A case list, read through a window of bytes: where the parts of the next case lie, and the window filled up.
-ghost use Rattle.std.specs.Prelude.{◌≡◌, ◌≤◌, length};
+ghost use Rattle.std.specs.Prelude.{◌≡◌, ◌≤◌, length, IfSome, MatchResult};
 ghost use Rattle.replay_list.specs.Windows.{Within, input_in};
 
 use channels::fill;
@@ -10,6 +10,7 @@ use std::rt::Clock;
 // No input and no answer of a case is longer.
 const MOST_BYTES: usize = 4000;
 
+// kept: the kind is a number, by what may not change: a list may name kinds that there are not, and each is answered (docs/REPLAY.md).
 // A case in the window: its input lies from `input` to `middle`, its expected answer from `expected` to `next`. The bytes read end at `end`.
 #[derive(Clone, Copy)]
 pub struct Case {
@@ -21,64 +22,41 @@ pub struct Case {
     pub end: usize,
 }
 
-// Stands for the case at `at` where there is no whole one: kind 0 is no kind.
-pub fn no_whole_case(at: usize, end: usize) -> Case
-    requires { at ≤ end }
-    ensures { Within end result }
-{
-    Case {
-        kind: 0,
-        input: at,
-        middle: at,
-        expected: at,
-        next: at,
-        end,
-    }
-}
-
-// Finds the parts of the case that begins at `at`. It is of kind 0 where it is cut off, or where its input or its answer is too long.
-fn case_at(window: &[u8], at: usize, end: usize) -> Case
+// Finds the parts of the case that begins at `at`. There is none where it is cut off, or where its input or its answer is too long.
+fn case_at(window: &[u8], at: usize, end: usize) -> Option<Case>
     requires { (at ≤ end) × (end ≤ length window.now) }
-    ensures { Within (length window.now) result }
+    ensures { IfSome result (λ c. Within (length window.now) c) }
 {
     if end - at < 5 {
-        return no_whole_case(at, end);
+        return None;
     }
     let input = at + 3;
     let n = pair(window[at + 1], window[at + 2]);
-    if MOST_BYTES < n {
-        return no_whole_case(at, end);
-    }
-    if end - input < n + 2 {
-        return no_whole_case(at, end);
+    if MOST_BYTES < n || end - input < n + 2 {
+        return None;
     }
     let middle = input + n;
     let expected = middle + 2;
     let m = pair(window[middle], window[middle + 1]);
-    if MOST_BYTES < m {
-        return no_whole_case(at, end);
+    if MOST_BYTES < m || end - expected < m {
+        return None;
     }
-    if end - expected < m {
-        return no_whole_case(at, end);
-    }
-    Case {
+    Some(Case {
         kind: window[at],
         input,
         middle,
         expected,
         next: expected + m,
         end,
-    }
+    })
 }
 
-// Moves the bytes from `at` to `end` to the window's front, one by one: the two parts may overlap.
+// Moves the bytes from `at` to `end` to the window's front: the two parts may overlap.
 fn move_front(window: &mut [u8], at: usize, end: usize)
     requires fact_1 { at ≤ end }
     requires fact_2 { end ≤ length window.old }
 {
-    for i in 0..end - at {
-        window[i] = window[at + i];
-    }
+    window.copy_within(at..end, 0);
 }
 
 // Moves what is left to the front and reads on behind it, until the window is full, the list ends or a read fails. Answers where the bytes read end.
@@ -97,23 +75,23 @@ fn filled<R: Read, C: Clock>(
     left + fill(from, &mut window[left..], clock).bytes
 }
 
-// Finds the case behind `before`; where the window has no whole one, once more with the window filled up.
+// Finds the case behind `before`, or the first; where the window has no whole one, once more with the window filled up. Where there is none then, tells
+// how many bytes are left: of a list that has ended, none.
 pub fn case_after<R: Read, C: Clock>(
     window: &mut [u8],
-    before: Case,
+    before: Option<Case>,
     from: &mut R,
     clock: &C,
-) -> Case
-    requires { Within (length window.old) before }
-    ensures { Within (length window.new) result }
+) -> Result<Case, usize>
+    requires { IfSome before (λ c. Within (length window.old) c) }
+    ensures { MatchResult result (λ c. Within (length window.new) c) (λ left. left ≤ length window.new) }
 {
-    let at = before.next;
-    let c = case_at(&*window, at, before.end);
-    if c.kind != 0 {
-        return c;
+    let (at, end) = before.map_or((0, 0), |c| (c.next, c.end));
+    if let Some(c) = case_at(&*window, at, end) {
+        return Ok(c);
     }
-    let end = filled(&mut *window, at, before.end, from, clock);
-    case_at(&*window, 0, end)
+    let end = filled(&mut *window, at, end, from, clock);
+    case_at(&*window, 0, end).ok_or(end)
 }
 
 // Gives the input of a case in the window.
@@ -121,7 +99,5 @@ pub fn input_of<'a>(window: &'a [u8], c: Case) -> &'a [u8]
     requires { Within (length window.now) c }
     ensures { result.now ≡ input_in window.now c }
 {
-    let from = c.input;
-    let to = c.middle;
-    &window[from..to]
+    &window[c.input..c.middle]
 }

@@ -1,77 +1,48 @@
 // Holds answers to the expected ones, and counts what was found so far.
-ghost use Rattle.std.specs.Prelude.{◌≤◌, length};
+ghost use Rattle.std.specs.Prelude.{◌≤◌, length, IfOk};
 ghost use Rattle.replay_list.specs.Windows.{Within};
 
 use crate::list::Case;
 use crate::report;
-use replay_bytes::no_case;
 use std::io::Write;
 use std::rt::Clock;
 
-// Says how many cases were run, how many of them differed, and whether to go on: not behind the list's end, nor behind a case that is none.
+// Says how many cases were run, and how many of them differed.
 #[derive(Clone, Copy)]
 pub struct Tally {
     pub cases: u64,
     pub differences: u64,
-    pub going: bool,
 }
 
-// Tells whether an answer of that size is the expected one.
-fn same(out: &[u8], size: usize, expected: &[u8]) -> bool {
-    if size != expected.len() {
-        return false;
-    }
-    if out.len() < size {
-        return false;
-    }
-    let mut i = 0;
-    while i < size {
-        if out[i] != expected[i] {
-            return false;
-        }
-        i += 1;
-    }
-    true
-}
-
-// Counts a case whose answer has that size, and prints it where it is among the first ten that differ. Where there was none to run, prints the
-// last line: the list has ended, or is bad.
+// Counts a case whose answer has that size, and prints it where it is among the first ten that differ. Where there is no case, or no answer, since the input
+// does not fit the kind, prints the last line, and there is nothing more to count: the list has ended, or is bad.
 pub fn judged<W: Write, C: Clock>(
     t: Tally,
     window: &[u8],
-    c: Case,
+    found: Result<Case, usize>,
     out: &[u8],
-    size: usize,
+    size: Option<usize>,
     to: &mut W,
     clock: &C,
-) -> Tally
-    requires { Within (length window.now) c }
+) -> Option<Tally>
+    requires { IfOk found (λ c. Within (length window.now) c) }
 {
-    let cases = std::num::wrapping_add_u64(t.cases, 1);
-    let differences = t.differences;
-    if size == no_case() {
-        report::last_line(c.end, cases, t, to, clock);
-        return Tally {
-            cases,
-            differences,
-            going: false,
-        };
+    let (Ok(c), Some(size)) = (found, size) else {
+        let left = found.map_or_else(|left| left, |c| c.end);
+        report::last_line(left, t, to, clock);
+        return None;
+    };
+    let cases = t.cases.wrapping_add(1);
+    let expected = &window[c.expected..c.next];
+    if out.get(..size) == Some(expected) {
+        return Some(Tally { cases, ..t });
     }
-    let from = c.expected;
-    let next = c.next;
-    if same(out, size, &window[from..next]) {
-        return Tally {
-            cases,
-            differences,
-            going: true,
-        };
+    if t.differences < 10 {
+        let given = out.get(..size).unwrap_or(&[]);
+        report::difference(cases, c.kind, expected, given, to, clock);
     }
-    if differences < 10 {
-        report::difference(cases, c.kind, &window[from..next], out, size, to, clock);
-    }
-    Tally {
+    Some(Tally {
         cases,
-        differences: std::num::wrapping_add_u64(differences, 1),
-        going: true,
-    }
+        differences: t.differences.wrapping_add(1),
+    })
 }

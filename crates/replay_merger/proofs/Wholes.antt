@@ -1,5 +1,6 @@
 -- One release of the source's whole release: what it hands on and leaves, and what is left to be released.
 -- Assumes nothing.
+use Rattle.std.proofs.Common.{Option, Some, None}
 use mathlib.Core.Path.{◌≡◌, refl, sym, ap, ap₂, ◌∙◌}
 use mathlib.Core.Bool.{Bool, true, false, cond, true≢false}
 use mathlib.Core.List.{List, [], ◌∷◌, ◌++◌, append-nil, append_assoc}
@@ -9,10 +10,7 @@ use native.Mathlib.Omega.{arith}
 use lib.ListN.{length}
 use Rattle.replay_bytes.specs.Bytes.{Put}
 use Rattle.replay_bytes.proofs.Puts.{put_as, put_front, put_more, put_none, same_long}
-use Rattle.merger_rules.specs.declared.Choice.{Choice}
-use Rattle.merger_rules.specs.declared.Choice.TheVariants.{Neither, Chosen}
-use Rattle.merger_rules.specs.declared.Clock.{Clock}
-use Rattle.merger_rules.specs.declared.Clock.TheVariants.{At}
+use Rattle.merger_rules.specs.declared.Chosen.{Chosen}
 use Rattle.merger_rules.specs.declared.Freed.{Freed}
 use Rattle.merger_rules.specs.declared.Position.{Position}
 use Rattle.merger_rules.specs.declared.Release.{Release}
@@ -35,7 +33,7 @@ none_given_lem (Frame r) e = absurd (true≢false e)
 none_given_lem PassedOver e = refl
 none_given_lem NothingReady e = refl
 
-module _ (s₀ s₁ : Clock) (flush : Bool) where
+module _ (s₀ s₁ : Option ℕ) (flush : Bool) where
   -- all that is ready, released
   abbrev pub whole : View → Many
   whole v = source_release s₀ s₁ flush v.pending v.last
@@ -45,14 +43,14 @@ module _ (s₀ s₁ : Clock) (flush : Bool) where
     went : is_gone y.answer ≡ true
     rest : y.next.pending ≡ ps
 
-  settled : (c : Choice) (f : Freed) (ps : List Position) (last : Clock) → Went ps (settle c f ps last)
-  settled Neither f ps last = record { went = refl; rest = refl }
-  settled (Chosen h b) f ps last = by (is_after last (snapped last h.figures.offset))
+  settled : (c : Option Chosen) (f : Freed) (ps : List Position) (last : Option ℕ) → Went ps (settle c f ps last)
+  settled None f ps last = record { went = refl; rest = refl }
+  settled (Some c) f ps last = by (is_after last (snapped last c.frame.figures.offset))
     where
       to : ℕ
-      to = snapped last h.figures.offset
+      to = snapped last c.frame.figures.offset
 
-      by : (t : Bool) → Went ps (cond t (release_step (Frame (released_as to h b)) f (view ps (At to))) (release_step PassedOver f (view ps last)))
+      by : (t : Bool) → Went ps (cond t (release_step (Frame (released_as to c.frame c.alternate)) f (view ps (Some to))) (release_step PassedOver f (view ps last)))
       by true = record { went = refl; rest = refl }
       by false = record { went = refl; rest = refl }
 
@@ -63,7 +61,7 @@ module _ (s₀ s₁ : Clock) (flush : Bool) where
     pub frames : (whole v).frames ≡ given y.answer ++ (whole y.next).frames
     pub next : (whole v).next ≡ (whole y.next).next
 
-  part : (l : List Position) (last : Clock) → Part (view l last) (release_of s₀ s₁ flush (view l last))
+  part : (l : List Position) (last : Option ℕ) → Part (view l last) (release_of s₀ s₁ flush (view l last))
   part [] last = record { none = λ e. (refl, refl); fewer = λ e. absurd (true≢false (sym e)); frames = refl; next = refl }
   part (p ∷ ps) last = by (is_ready s₀ s₁ flush p) refl
     where

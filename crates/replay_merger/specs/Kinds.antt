@@ -1,6 +1,6 @@
 -- Which case each of the kinds 15 to 17 is: the table of docs/REPLAY.md. A case goes through all that answer kinds, and each hands on what is not its own.
 -- Assumes nothing.
-use Rattle.std.specs.Prelude.{◌≡◌, cond, List, [], ℕ, eqb}
+use Rattle.std.specs.Prelude.{◌≡◌, cond, List, [], ℕ, eqb, Option}
 use Rattle.replay_bytes.specs.Answers.{bytes}
 use Rattle.merger_rules.specs.Merging.{View}
 use Rattle.merger_rules.specs.Scripts.{started}
@@ -22,12 +22,12 @@ abbrev pub turn_of : ℕ → List ℕ → View → Turn
 turn_of kind input v = cond (eqb kind 15) (own new_case) (cond (eqb kind 16) (own (push_case input v)) (cond (eqb kind 17) (own (release_case input v)) another))
 
 -- nothing is touched, and the size of the answer is handed on
-pub record HandedOn (m : Merger) (size : ℕ) (before after : List ℕ) (r : Merged) : Type 0 where
+pub record HandedOn (m : Merger) (size : Option ℕ) (before after : List ℕ) (r : Merged) : Type 0 where
   pub valid : ValidMerger r.merger
   pub kept : r.merger ≡ m
   pub handed : r.size ≡ size
   pub silent : after ≡ before
 
-abbrev pub Turned : Turn → Merger → ℕ → List ℕ → List ℕ → Merged → Type 0
+abbrev pub Turned : Turn → Merger → Option ℕ → List ℕ → List ℕ → Merged → Type 0
 Turned (own o) m size before after r = ToldBy m o before after r
 Turned another m size before after r = HandedOn m size before after r

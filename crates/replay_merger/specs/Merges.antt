@@ -1,21 +1,17 @@
 -- What a case of the kinds 16 and 17 answers and leaves: the table of docs/REPLAY.md, by the definitions that the contracts of `merger` cite.
 -- Assumes nothing.
-use Rattle.std.specs.Prelude.{◌≡◌, Bool, true, false, cond, List, [], ◌∷◌, ◌++◌, ℕ, ◌-◌, ◌/◌, ◌%◌, eqb, length, get_or}
+use Rattle.std.specs.Prelude.{◌≡◌, Bool, true, false, cond, List, [], ◌∷◌, ◌++◌, ℕ, ◌-◌, ◌/◌, ◌%◌, eqb, length, get_or, Option}
 use Rattle.replay_bytes.specs.Answers.{Answer, bytes, unfit, Told}
-use Rattle.replay_bytes.specs.Bytes.{Put}
 use Rattle.replay_merger_bytes.specs.MergerBytes.{clock_if, eight_at, head_in, pushed_number, release_bytes}
-use Rattle.merger_rules.specs.declared.Clock.{Clock}
 use Rattle.merger.specs.declared.Merger.{Merger}
 use Rattle.merger_rules.specs.declared.Release.{Release}
 use Rattle.merger_rules.specs.declared.Released.{Released}
 use Rattle.merger_rules.specs.declared.Released.TheVariants.{Frame, PassedOver, NothingReady}
-use Rattle.merger_rules.specs.Merging.{View, held_of, PushStep, push_of, ReleaseStep}
+use Rattle.merger_rules.specs.Merging.{View, held_of, PushStep, push_of}
 use Rattle.merger.specs.States.{view_of}
-use Rattle.merger_rules.specs.Scripts.{given}
 use Rattle.merger_rules.specs.Source.{source_release}
 use Rattle.merger.specs.States.{ValidMerger}
 use Rattle.replay_merger.specs.declared.Merged.{Merged}
-use Rattle.replay_merger.specs.declared.Step.{Step}
 
 -- what a case answers, and the merger after it
 pub record Case : Type 0 where
@@ -49,7 +45,7 @@ frames_bytes [] = []
 frames_bytes (r ∷ rs) = release_bytes r ++ frames_bytes rs
 
 -- the source's whole release: what went are the positions that are no longer pending
-abbrev pub released_by : Clock → Clock → Bool → View → Case
+abbrev pub released_by : Option ℕ → Option ℕ → Bool → View → Case
 released_by s₀ s₁ flush v =
     let o = source_release s₀ s₁ flush v.pending v.last in
     case (bytes ((length v.pending - length o.next.pending) ∷ frames_bytes o.frames)) o.next
@@ -68,9 +64,3 @@ abbrev pub is_gone : Released → Bool
 is_gone (Frame r) = true
 is_gone PassedOver = true
 is_gone NothingReady = false
-
-pub record Stepped (o : ReleaseStep) (to : ℕ) (before after : List ℕ) (r : Step) : Type 0 where
-  pub valid : ValidMerger r.merger
-  pub leaves : view_of r.merger ≡ o.next
-  pub goes : r.going ≡ is_gone o.answer
-  pub puts : Put before to (frames_bytes (given o.answer)) after r.length

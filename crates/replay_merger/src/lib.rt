@@ -3,21 +3,20 @@
 
 #![tactic(auto)]
 
-ghost use Rattle.std.specs.Prelude.{◌≤◌, ◌≡◌, length};
+ghost use Rattle.std.specs.Prelude.{◌≡◌, length};
 ghost use Rattle.merger.specs.States.{view_of};
-ghost use Rattle.merger_rules.specs.Merging.{release_of};
 ghost use Rattle.merger.specs.States.{PushGave, ValidMerger};
 ghost use Rattle.replay_merger.specs.Kinds.{Turned, turn_of};
-ghost use Rattle.replay_merger.specs.Merges.{Stepped, ToldBy, push_case, push_in, release_case, released_by};
+ghost use Rattle.replay_merger.specs.Merges.{ToldBy, push_case, push_in, release_case, released_by};
 
-use merger::{AfterPush, Clock, Merger, Released};
-use replay_bytes::{at, no_case, put};
+use merger::{AfterPush, Merger, Released};
+use replay_bytes::{Kind, at, put};
 use replay_merger_bytes::{clock, eight, head_in, pushed_number, put_release};
 
-// Hands back the merger after the case, and the answer's length.
+// Hands back the merger after the case, and the answer's length, where the input fits the kind.
 #[derive(Clone, Copy)]
 pub struct Merged {
-    pub size: usize,
+    pub size: Option<usize>,
     pub merger: Merger,
 }
 
@@ -27,9 +26,8 @@ fn pushed_in(m: Merger, input: &[u8]) -> AfterPush
     requires fact_2 { length input.now ≡ 23 }
     ensures { PushGave m (push_in input.now (view_of m)) result }
 {
-    let head = head_in(input);
-    let stream = bits::wide(at(input, 0));
-    m.push(stream, head, eight(input, 14), at(input, 22) == 1)
+    let stream = usize::from(at(input, 0));
+    m.push(stream, head_in(input), eight(input, 14), at(input, 22) == 1)
 }
 
 // Answers kind 16, a push: stream, offset, matched, errors, moves, number, yes.
@@ -39,89 +37,45 @@ pub fn merger_pushed(m: Merger, input: &[u8], out: &mut [u8]) -> Merged
 {
     if input.len() != 23 {
         return Merged {
-            size: no_case(),
+            size: None,
             merger: m,
         };
     }
     let after = pushed_in(m, input);
-    let answer = after.answer;
-    let merger = after.merger;
     Merged {
-        size: put(out, 0, pushed_number(answer)),
-        merger,
-    }
-}
-
-// Hands back the merger after a release, and the place behind its frame's bytes. `going` is false where nothing was ready.
-#[derive(Clone, Copy)]
-struct Step {
-    going: bool,
-    length: usize,
-    merger: Merger,
-}
-
-// Releases once, and puts the frame that went.
-fn released_once(
-    m: Merger,
-    first: Clock,
-    second: Clock,
-    flush: bool,
-    out: &mut [u8],
-    to: usize,
-) -> Step
-    requires fact_1 { ValidMerger m }
-    requires fact_2 { to ≤ length out.old }
-    ensures { Stepped (release_of first second flush (view_of m)) to out.old out.new result }
-{
-    let after = m.release(first, second, flush);
-    let answer = after.answer;
-    let merger = after.merger;
-    match answer {
-        Released::Frame(r) => {
-            let length = put_release(out, to, r);
-            Step {
-                going: true,
-                length,
-                merger,
-            }
-        }
-        Released::PassedOver => Step {
-            going: true,
-            length: to,
-            merger,
-        },
-        Released::NothingReady => Step {
-            going: false,
-            length: to,
-            merger,
-        },
+        size: Some(put(out, 0, pushed_number(after.answer))),
+        merger: after.merger,
     }
 }
 
 // Releases until nothing is ready. Sixteen positions at most are pending, so the seventeenth release finds nothing ready, and the loop is left from
 // within. How many went is known then: its byte is put over a 0 at the front.
-fn all_released(m: Merger, first: Clock, second: Clock, flush: bool, out: &mut [u8]) -> Merged
+fn all_released(
+    m: Merger,
+    first: Option<u64>,
+    second: Option<u64>,
+    flush: bool,
+    out: &mut [u8],
+) -> Merged
     requires { ValidMerger m }
     ensures { ToldBy m (released_by first second flush (view_of m)) out.old out.new result }
 {
     let mut length = put(&mut *out, 0, 0);
     let mut merger = m;
-    let mut gone: u8 = 0;
-    while gone < 17 {
-        let s = released_once(merger, first, second, flush, &mut *out, length);
-        merger = s.merger;
-        length = s.length;
-        if !s.going {
-            put(out, 0, gone);
-            return Merged {
-                size: length,
-                merger,
-            };
+    for gone in 0..17u8 {
+        let after = merger.release(first, second, flush);
+        merger = after.merger;
+        match after.answer {
+            Released::Frame(r) => length = put_release(&mut *out, length, r),
+            Released::PassedOver => {}
+            Released::NothingReady => {
+                put(out, 0, gone);
+                break;
+            }
         }
-        gone += 1;
     }
     Merged {
-        size: length,
+        size: Some(length),
         merger,
     }
 }
@@ -133,7 +87,7 @@ pub fn released(m: Merger, input: &[u8], out: &mut [u8]) -> Merged
 {
     if input.len() != 17 {
         return Merged {
-            size: no_case(),
+            size: None,
             merger: m,
         };
     }
@@ -144,18 +98,19 @@ pub fn released(m: Merger, input: &[u8], out: &mut [u8]) -> Merged
 }
 
 // Answers a case by its kind, of 15 to 17. A case of another kind leaves the merger as it is, and the size of its answer is handed on.
-pub fn merger_case(kind: u8, size: usize, m: Merger, input: &[u8], out: &mut [u8]) -> Merged
+// kept: the kind is a number here, by what may not change: `turn_of` says what each number answers, those that name no kind too.
+pub fn merger_case(kind: u8, size: Option<usize>, m: Merger, input: &[u8], out: &mut [u8]) -> Merged
     requires { ValidMerger m }
     ensures turned { Turned (turn_of kind input.now (view_of m)) m size out.old out.new result }
     ensures sound { ValidMerger result.merger }
 {
-    match kind {
-        15 => Merged {
-            size: 0,
+    match Kind::try_from(kind) {
+        Ok(Kind::NewMerger) => Merged {
+            size: Some(0),
             merger: Merger::new(),
         },
-        16 => merger_pushed(m, input, out),
-        17 => released(m, input, out),
+        Ok(Kind::MergerPush) => merger_pushed(m, input, out),
+        Ok(Kind::MergerRelease) => released(m, input, out),
         _ => Merged { size, merger: m },
     }
 }

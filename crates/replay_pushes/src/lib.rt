@@ -8,12 +8,12 @@ ghost use Rattle.replay_pushes.specs.Pushes.{Shown, ShownFed, count_bytes, figur
 
 use replay_bytes::{put, put_flag, put_number, put_signed};
 use replay_frames::put_frames;
-use sync::{Fed, Push, Pushed, Synchroniser};
+use sync::{Fed, Pushed, Synchroniser};
 
-// Hands back the synchroniser after the case, and the answer's length.
+// Hands back the synchroniser after the case, and the answer's length, where the input fits the kind.
 #[derive(Clone, Copy)]
 pub struct Synchronised {
-    pub size: usize,
+    pub size: Option<usize>,
     pub sync: Synchroniser,
 }
 
@@ -45,21 +45,19 @@ pub fn put_pushed(out: &mut [u8], to: usize, p: Pushed, room: &[u8]) -> Synchron
     requires { ValidSynchroniser p.next }
     ensures { Shown p to room.now out.old out.new result }
 {
-    let answer = p.answer;
-    let heads = p.heads;
     let sync = p.next;
-    let numbers = sync.numbers;
-    match answer {
-        Push::Taken => {
+    match p.answer {
+        Ok(()) => {
             let a = put(&mut *out, to, 0);
-            let b = put_frames(&mut *out, a, p.count, heads, room, numbers.figures.soft);
+            let soft = sync.numbers.figures.soft;
+            let b = put_frames(&mut *out, a, p.count, p.heads, room, soft);
             Synchronised {
-                size: put_figures(out, b, sync),
+                size: Some(put_figures(out, b, sync)),
                 sync,
             }
         }
-        Push::Refused(refusal) => Synchronised {
-            size: put(out, to, bits::number_of(refusal)),
+        Err(refusal) => Synchronised {
+            size: Some(put(out, to, u8::from(refusal))),
             sync,
         },
     }
@@ -71,6 +69,5 @@ pub fn put_fed(out: &mut [u8], f: Fed, room: &[u8]) -> Synchronised
     ensures { ShownFed f room.now out.old out.new result }
 {
     let next = put_number(&mut *out, 0, f.used as u64, 2);
-    let p = f.pushed;
-    put_pushed(out, next, p, room)
+    put_pushed(out, next, f.pushed, room)
 }

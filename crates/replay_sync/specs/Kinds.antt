@@ -1,7 +1,7 @@
 -- Which case each of the kinds 12 to 14 and 18 to 20 is: the table of docs/REPLAY.md. A case goes through all that answer kinds, and each hands on
 -- what is not its own.
 -- Assumes nothing.
-use Rattle.std.specs.Prelude.{◌≡◌, cond, List, [], ℕ, eqb}
+use Rattle.std.specs.Prelude.{◌≡◌, cond, List, [], ℕ, eqb, Option}
 use Rattle.replay_bytes.specs.Answers.{bytes}
 use Rattle.replay_pushes.specs.declared.Synchronised.{Synchronised}
 use Rattle.sync.specs.declared.Synchroniser.{Synchroniser}
@@ -29,13 +29,13 @@ turn_of kind room input m =
     another)))))
 
 -- nothing is touched, and the size of the answer is handed on
-pub record HandedOn (s : Synchroniser) (size : ℕ) (room left before after : List ℕ) (r : Synchronised) : Type 0 where
+pub record HandedOn (s : Synchroniser) (size : Option ℕ) (room left before after : List ℕ) (r : Synchronised) : Type 0 where
   pub valid : ValidSynchroniser r.sync
   pub kept : r.sync ≡ s
   pub handed : r.size ≡ size
   pub stored : left ≡ room
   pub silent : after ≡ before
 
-abbrev pub Turned : Turn → Synchroniser → ℕ → List ℕ → List ℕ → List ℕ → List ℕ → Synchronised → Type 0
+abbrev pub Turned : Turn → Synchroniser → Option ℕ → List ℕ → List ℕ → List ℕ → List ℕ → Synchronised → Type 0
 Turned (own o) s size room left before after r = ToldBy s o left before after r
 Turned another s size room left before after r = HandedOn s size room left before after r

@@ -1,7 +1,7 @@
 -- What a case of the kinds 13, 14 and 18 to 20 answers, and what it leaves of the room and of the synchroniser: the table of docs/REPLAY.md, by
 -- the definitions that the contracts of `sync` cite.
 -- Assumes nothing.
-use Rattle.std.specs.Prelude.{◌≡◌, true, cond, List, ◌++◌, ℕ, ◌+◌, ◌*◌, eqb, leb, length, get_or, take, drop}
+use Rattle.std.specs.Prelude.{◌≡◌, true, cond, List, ◌++◌, ℕ, ◌+◌, ◌*◌, eqb, leb, length, get_or, take, drop, Result}
 use Rattle.replay_bytes.specs.Answers.{Answer, bytes, unfit, Told}
 use Rattle.replay_bytes.specs.Bytes.{last_bytes}
 use Rattle.sync_inputs.specs.Answers.{answer_to, push_of}
@@ -9,7 +9,6 @@ use Rattle.sync_steps.specs.Feeds.{fed_of}
 use Rattle.sync_inputs.specs.Inputs.{hardly, softly, unpacked}
 use Rattle.sync_frames.specs.Frames.{heads_of}
 use Rattle.sync.specs.View.{ValidSynchroniser, view}
-use Rattle.sync_inputs.specs.declared.Push.{Push}
 use Rattle.sync.specs.declared.Synchroniser.{Synchroniser}
 use Rattle.sync_rules.specs.Frames.{Frame}
 use Rattle.sync_rules.specs.Pushes.{Out}
@@ -17,6 +16,7 @@ use Rattle.sync_rules.specs.Room.{laid}
 use Rattle.sync_rules.specs.State.{State, Input, hard}
 use Rattle.replay_pushes.specs.Pushes.{pushed_bytes}
 use Rattle.replay_pushes.specs.declared.Synchronised.{Synchronised}
+use Rattle.bits.specs.declared.Refusal.{Refusal}
 
 -- what a case answers, and the room and the synchroniser after it
 pub record Case : Type 0 where
@@ -38,7 +38,7 @@ abbrev pub unfit_case : List ℕ → State → Case
 unfit_case room m = record { answer = unfit; room = room; next = m }
 
 -- what an answer tells that sent these frames: the room is the one after the call
-abbrev pub sent_bytes : Push → List Frame → List ℕ → State → List ℕ
+abbrev pub sent_bytes : Result Unit Refusal → List Frame → List ℕ → State → List ℕ
 sent_bytes a sent room m = pushed_bytes a (length sent) (heads_of 3 sent) room m
 
 -- the number of two bytes

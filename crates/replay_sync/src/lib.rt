@@ -7,7 +7,7 @@ ghost use Rattle.sync.specs.View.{ValidSynchroniser, view};
 ghost use Rattle.replay_sync.specs.Kinds.{Turned, turn_of};
 ghost use Rattle.replay_sync.specs.Streams.{ToldBy, fed_case, fed_packed_case, fed_soft_case, push_case, pushed_case, soft_push};
 
-use replay_bytes::{at, no_case, pair};
+use replay_bytes::{Kind, at, pair};
 pub use replay_pushes::Synchronised;
 use replay_pushes::{put_fed, put_pushed};
 use sync::Synchroniser;
@@ -21,7 +21,7 @@ pub fn pushed(s: Synchroniser, input: &[u8], room: &mut [u8], out: &mut [u8]) ->
         let size = pair(at(input, 1), at(input, 2));
         if room.len() < size {
             return Synchronised {
-                size: no_case(),
+                size: None,
                 sync: s,
             };
         }
@@ -58,7 +58,7 @@ pub fn fed_soft(s: Synchroniser, input: &[u8], room: &mut [u8], out: &mut [u8]) 
     let middle = 2 + pair(at(input, 0), at(input, 1));
     if input.len() < middle {
         return Synchronised {
-            size: no_case(),
+            size: None,
             sync: s,
         };
     }
@@ -73,7 +73,7 @@ pub fn fed_packed(s: Synchroniser, input: &[u8], room: &mut [u8], out: &mut [u8]
 {
     if input.len() < 2 {
         return Synchronised {
-            size: no_case(),
+            size: None,
             sync: s,
         };
     }
@@ -82,9 +82,10 @@ pub fn fed_packed(s: Synchroniser, input: &[u8], room: &mut [u8], out: &mut [u8]
 }
 
 // Answers a case by its kind, of 12 to 14 and 18 to 20. A case of another kind leaves the synchroniser as it is, and the size of its answer is handed on.
+// kept: the kind is a number here, by what may not change: `turn_of` says what each number answers, those that name no kind too.
 pub fn synchroniser_case(
     kind: u8,
-    size: usize,
+    size: Option<usize>,
     s: Synchroniser,
     input: &[u8],
     room: &mut [u8],
@@ -94,16 +95,16 @@ pub fn synchroniser_case(
     ensures turned { Turned (turn_of kind room.old input.now (view s)) s size room.old room.new out.old out.new result }
     ensures sound { ValidSynchroniser result.sync }
 {
-    match kind {
-        12 => Synchronised {
-            size: 0,
+    match Kind::try_from(kind) {
+        Ok(Kind::NewSynchroniser) => Synchronised {
+            size: Some(0),
             sync: Synchroniser::new(),
         },
-        13 => pushed(s, input, room, out),
-        14 => pushed_soft(s, input, room, out),
-        18 => fed(s, input, room, out),
-        19 => fed_soft(s, input, room, out),
-        20 => fed_packed(s, input, room, out),
+        Ok(Kind::Push) => pushed(s, input, room, out),
+        Ok(Kind::SoftPush) => pushed_soft(s, input, room, out),
+        Ok(Kind::Feed) => fed(s, input, room, out),
+        Ok(Kind::SoftFeed) => fed_soft(s, input, room, out),
+        Ok(Kind::PackedFeed) => fed_packed(s, input, room, out),
         _ => Synchronised { size, sync: s },
     }
 }

@@ -2,12 +2,12 @@
 ghost use Rattle.replay_bytes.specs.Answers.{Told};
 ghost use Rattle.replay_voice.specs.Kinds.{CodedBy, coded_case, kind_case, table_set};
 
-use replay_bytes::no_case;
+use replay_bytes::Kind;
 
-// Says the answer's length, and how many bytes the table in force has.
+// Says the answer's length, where the input fits the kind, and how many bytes the table in force has.
 #[derive(Clone, Copy)]
 pub struct Answered {
-    pub size: usize,
+    pub size: Option<usize>,
     pub table: usize,
 }
 
@@ -18,11 +18,11 @@ fn new_table(table: &mut [u8], bytes: &[u8], out: &mut [u8]) -> Answered
     let n = bytes.len();
     if table.len() < n {
         return Answered {
-            size: no_case(),
+            size: None,
             table: 0,
         };
     }
-    bits::copy(bytes, &mut table[0..n]);
+    table[..n].copy_from_slice(bytes);
     Answered {
         size: crate::table(bytes, out),
         table: n,
@@ -30,25 +30,26 @@ fn new_table(table: &mut [u8], bytes: &[u8], out: &mut [u8]) -> Answered
 }
 
 // Answers a case that leaves the table in force as it is. No other kind has cases.
-fn answer(kind: u8, table: &[u8], input: &[u8], out: &mut [u8]) -> usize
+fn answer(kind: u8, table: &[u8], input: &[u8], out: &mut [u8]) -> Option<usize>
     ensures { Told (kind_case kind table.now input.now) out.old out.new result }
 {
-    match kind {
-        1 => replay_coding::crc(input, out),
-        2 => replay_coding::scrambled(input, out),
-        3 => replay_coding::descrambled(input, out),
-        4 => replay_coding::field_pair(input, out),
-        5 => replay_tails::made(input, out),
-        6 => replay_tails::repaired(false, input, out),
-        7 => replay_tails::repaired(true, input, out),
-        9 => crate::encoded(table, input, out),
-        10 => crate::decoded(table, input, out),
-        11 => crate::softly_decoded(table, input, out),
-        _ => no_case(),
+    match Kind::try_from(kind).ok()? {
+        Kind::Checksum => replay_coding::crc(input, out),
+        Kind::Scrambling => replay_coding::scrambled(input, out),
+        Kind::Descrambling => replay_coding::descrambled(input, out),
+        Kind::Field => replay_coding::field_pair(input, out),
+        Kind::Tail => replay_tails::made(input, out),
+        Kind::TailRepair => replay_tails::repaired(false, input, out),
+        Kind::WordRepair => replay_tails::repaired(true, input, out),
+        Kind::Encoding => crate::encoded(table, input, out),
+        Kind::Decoding => crate::decoded(table, input, out),
+        Kind::SoftDecoding => crate::softly_decoded(table, input, out),
+        _ => None,
     }
 }
 
 // Answers a case. The table in force has the first `tabled` bytes of the lent memory.
+// kept: the kind is a number here, by what may not change: `coded_case` says what each number answers, those that name no kind too.
 pub fn coding_case(
     kind: u8,
     table: &mut [u8],
@@ -60,15 +61,15 @@ pub fn coding_case(
 {
     if table.len() < tabled {
         return Answered {
-            size: no_case(),
+            size: None,
             table: 0,
         };
     }
-    if kind == 8 {
+    if Kind::try_from(kind) == Ok(Kind::Table) {
         return new_table(table, input, out);
     }
     Answered {
-        size: answer(kind, &table[0..tabled], input, out),
+        size: answer(kind, &table[..tabled], input, out),
         table: tabled,
     }
 }

@@ -6,7 +6,7 @@
 
 #![tactic(auto)]
 
-ghost use Rattle.std.specs.Prelude.{◌<◌, ◌≤◌};
+ghost use Rattle.std.specs.Prelude.{◌≡◌, ◌<◌, ◌≤◌, IfSome};
 
 use channels::{Desk, send};
 use std::fs::File;
@@ -31,18 +31,12 @@ impl Read for CaseFile {
 
 // Gives argument i, or no text where there are not so many.
 fn word(words: &[String], i: usize) -> &str {
-    match words.get(i) {
-        Some(text) => text.as_str(),
-        None => "",
-    }
+    words.get(i).map_or("", |text| text.as_str())
 }
 
-// Gives letter i of a word, or 0 where it has not so many.
-fn letter_at(text: &str, i: usize) -> u8 {
-    match text.as_bytes().get(i) {
-        Some(letter) => *letter,
-        None => 0,
-    }
+// Gives letter i of a word, if it has so many.
+fn letter_at(text: &str, i: usize) -> Option<u8> {
+    text.as_bytes().get(i).copied()
 }
 
 // Prints a text as a part of the case's line.
@@ -63,23 +57,25 @@ fn opened(words: &[String], i: usize, desk: &mut Table) -> CaseFile {
 }
 
 // Runs listing, slips, record or show on a file; their second letters tell them apart. Gives how many arguments the case has.
-fn run_on_file(letter: u8, words: &[String], i: usize, desk: &mut Table) -> usize
-    requires { i < 200 }
-    ensures { result ≤ 4 }
+fn run_on_file(second: Option<u8>, words: &[String], i: usize, desk: &mut Table) -> usize
+    ensures { result ≡ 2 }
 {
     let mut file = opened(words, i, desk);
     say(b"\n", desk);
-    if letter == b'i' {
-        task_lines::list(&mut file, desk);
-    }
-    if letter == b'l' {
-        task_lines::slips(&mut file, desk);
-    }
-    if letter == b'e' {
-        task_records::record(&mut file, desk);
-    }
-    if letter == b'h' {
-        task_show::show(&mut file, desk);
+    match second {
+        Some(b'i') => {
+            task_lines::list(&mut file, desk);
+        }
+        Some(b'l') => {
+            task_lines::slips(&mut file, desk);
+        }
+        Some(b'e') => {
+            task_records::record(&mut file, desk);
+        }
+        Some(b'h') => {
+            task_show::show(&mut file, desk);
+        }
+        _ => {}
     }
     2
 }
@@ -90,16 +86,16 @@ fn table_at(i: usize, table: &mut [u8], desk: &mut Table) -> bool {
 }
 
 // Runs record-with or speech on a table and a file, and gives how many arguments the case has.
-fn run_with_table(letter: u8, words: &[String], i: usize, desk: &mut Table) -> usize
+fn run_with_table(first: Option<u8>, words: &[String], i: usize, desk: &mut Table) -> usize
     requires { i < 200 }
-    ensures { result ≤ 4 }
+    ensures { result ≡ 3 }
 {
     name(words, i, desk);
     let mut file = opened(words, i + 1, desk);
     say(b"\n", desk);
     let mut table = [0u8; 188];
     if table_at(i, &mut table, desk) {
-        if letter == b'r' {
+        if first == Some(b'r') {
             task_records::record_decoded(&mut file, &table, desk);
         } else {
             task_records::speak(&mut file, &table, desk);
@@ -111,7 +107,7 @@ fn run_with_table(letter: u8, words: &[String], i: usize, desk: &mut Table) -> u
 // Runs merge on a table and two recordings, and gives how many arguments the case has.
 fn run_merge(words: &[String], i: usize, desk: &mut Table) -> usize
     requires { i < 200 }
-    ensures { result ≤ 4 }
+    ensures { result ≡ 4 }
 {
     name(words, i, desk);
     let mut primary = opened(words, i + 1, desk);
@@ -124,29 +120,28 @@ fn run_merge(words: &[String], i: usize, desk: &mut Table) -> usize
     4
 }
 
-// Runs the case at argument i, whose program it tells by its letters, and gives how many arguments it has: none where there is no case.
-fn run_one(words: &[String], i: usize, desk: &mut Table) -> usize
+// Runs the case at argument i, whose program it tells by its letters, and gives how many arguments it has, if there is a case.
+// kept: letters in place of whole names, for what may not change: other words with these letters run a program too.
+fn run_one(words: &[String], i: usize, desk: &mut Table) -> Option<usize>
     requires { i < 199 }
-    ensures { result ≤ 4 }
+    ensures { IfSome result (λ n. (0 < n) × (n ≤ 4)) }
 {
     let program = word(words, i);
     if program.is_empty() {
-        return 0;
+        return None;
     }
     say(b"== ", desk);
     say(program.as_bytes(), desk);
     let first = letter_at(program, 0);
     let second = letter_at(program, 1);
-    if first == b'm' {
-        return run_merge(words, i + 1, desk);
-    }
-    if second == b'p' {
-        return run_with_table(first, words, i + 1, desk);
-    }
-    if letter_at(program, 6) == b'-' {
-        return run_with_table(first, words, i + 1, desk);
-    }
-    run_on_file(second, words, i + 1, desk)
+    let used = if first == Some(b'm') {
+        run_merge(words, i + 1, desk)
+    } else if second == Some(b'p') || letter_at(program, 6) == Some(b'-') {
+        run_with_table(first, words, i + 1, desk)
+    } else {
+        run_on_file(second, words, i + 1, desk)
+    };
+    Some(used)
 }
 
 // Runs the cases one after the other, as far as there are arguments; no case begins at argument 199 or later.
@@ -157,14 +152,13 @@ fn main(rt: HostRuntime) -> io::Result<()> {
         clock: rt,
     };
     let words: Vec<String> = env::args(&rt)?.collect(rt.alloc())?;
+    // kept: a `while`, since a `for` is no plainer: i goes on by the words that each case took.
     let mut i = 1;
     while i < 199 {
-        let used = run_one(&words, i, &mut desk);
-        if used == 0 {
-            i = 199;
-        } else {
-            i += used;
-        }
+        let Some(used) = run_one(&words, i, &mut desk) else {
+            break;
+        };
+        i += used;
     }
     Ok(())
 }

@@ -1,14 +1,14 @@
 -- What a push hands back, by its answer and by what it then does.
 -- Assumes nothing.
-use Rattle.std.specs.Prelude.{◌≡◌, List, ℕ, length}
+use Rattle.std.specs.Prelude.{◌≡◌, List, ℕ, length, Result}
 use Rattle.sync_frames.specs.declared.frames.Drained.{Drained}
-use Rattle.sync_inputs.specs.declared.Push.{Push}
 use Rattle.sync.specs.declared.Pushed.{Pushed}
 use Rattle.sync.specs.declared.Synchroniser.{Synchroniser}
 use Rattle.sync.specs.View.{view, ValidSynchroniser}
 use Rattle.sync_frames.specs.Frames.{heads_of}
 use Rattle.sync_rules.specs.State.{Input}
 use Rattle.sync_rules.specs.Room.{laid}
+use Rattle.bits.specs.declared.Refusal.{Refusal}
 -- passed on: the tests of a push in their order, and what a push does that is taken or refused
 unfoldable pub use Rattle.sync_inputs.specs.Answers.{answer_by, answer_to, push_of, takes}
 
@@ -24,5 +24,5 @@ pub record PushedBy (room room' : List ℕ) (s : Synchroniser) (x : Input) (r : 
   pub kept : takes r.answer ≡ 0 → r.next ≡ s
 
 -- an answer, the frames d and the next synchroniser, handed back
-abbrev pub handed_of : Push → Drained → Synchroniser → Pushed
+abbrev pub handed_of : Result Unit Refusal → Drained → Synchroniser → Pushed
 handed_of a d s = record { answer = a; count = d.count; heads = d.heads; next = s }

@@ -4,7 +4,6 @@ use Rattle.std.specs.Prelude.{◌≡◌, List, ℕ, length}
 use Rattle.sync.specs.declared.Fed.{Fed}
 use Rattle.sync.specs.View.{ValidSynchroniser, view}
 use Rattle.sync_rules.specs.Room.{laid}
-use Rattle.sync_steps.specs.declared.feeds.Into.{Into}
 use Rattle.sync_frames.specs.Frames.{heads_of}
 -- passed on: the pushes that a feed has to make, and what a feed of them does
 pub use Rattle.sync_steps.specs.Feeds.{FedOut}
@@ -21,7 +20,3 @@ pub record FedBy (room room' : List ℕ) (o : FedOut) (r : Fed) : Type 0 where
   pub many : r.pushed.count ≡ length o.sent
   pub figures : r.pushed.heads ≡ heads_of 3 o.sent
   pub stored : room' ≡ laid room 0 o.sent
-
--- what is handed back of many pushes into lent rings
-abbrev pub fed_with : List ℕ → List ℕ → Into → Fed
-fed_with bits reliabilities d = record { used = d.took; pushed = record { answer = d.answer; count = d.drained.count; heads = d.drained.heads; next = record { bits = bits; reliabilities = reliabilities; numbers = d.drained.numbers } } }

@@ -6,19 +6,21 @@
 
 ghost use Rattle.std.specs.Prelude.{◌≡◌, true, false, length, drop};
 ghost use Rattle.sync.specs.View.{ValidSynchroniser, view};
-ghost use Rattle.sync_inputs.specs.Inputs.{input_of};
+ghost use Rattle.sync_inputs.specs.Inputs.{input_of, inputs_of};
 ghost use Rattle.sync.specs.Answers.{PushedBy, handed_of};
-ghost use Rattle.sync.specs.Feeds.{FedBy, fed_of, hardly, softly, unpacked, fed_with};
+ghost use Rattle.sync.specs.Feeds.{FedBy, fed_of, hardly, softly, unpacked};
 ghost use Rattle.sync_rules.specs.State.{start, hard, pending, slips, net_slip, stream_end};
 ghost use Rattle.sync_rules.specs.Pushes.{quiet};
 
+use bits::Refusal;
 use sync_counts::{net_slip_of, slips_of};
-pub use sync_inputs::Push;
 use sync_inputs::{Given, Source, answer_to, hard_given, made, soft_given};
-use sync_pushes::{appended, enough, put, quiet_of};
+use sync_pushes::{brought, enough, quiet_of};
 use sync_rules::{Head, MOST_HELD, StreamFigures};
-use sync_steps::{Drained, Into, Numbers, feed_into, nothing, sends};
+use sync_steps::{Drained, Numbers, feed_into, nothing, sends};
 
+// kept: `ValidSynchroniser` stands in the clauses of the calls that need it and is no ghost field, by what may not change: `locked`, `frames`, `synchronised_frames`,
+// `pending_bits`, `dibits_taken` and `settled` ask for nothing, and would then ask for it of their callers. So the rings stay two arrays without the facts `Bits`.
 // Holds the rings of bits and of their reliabilities, and the numbers that say where in them the held bits lie.
 #[derive(Clone, Copy)]
 pub struct Synchroniser {
@@ -30,7 +32,7 @@ pub struct Synchroniser {
 // Says what a push answers, how many frames went out, their heads (zero behind them), and the next synchroniser.
 #[derive(Clone, Copy)]
 pub struct Pushed {
-    pub answer: Push,
+    pub answer: Result<(), Refusal>,
     pub count: usize,
     pub heads: [Head; 3],
     pub next: Synchroniser,
@@ -78,8 +80,7 @@ impl Synchroniser {
         requires { ValidSynchroniser self }
         ensures { PushedBy room.old room.new self (hard dibit) result }
     {
-        let x = hard_given(dibit);
-        one_push(self, x, room)
+        one_push(self, hard_given(dibit), room)
     }
 
     // Takes a dibit with the reliabilities of its two bits.
@@ -87,79 +88,41 @@ impl Synchroniser {
         requires { ValidSynchroniser self }
         ensures { PushedBy room.old room.new self (record { dibit = dibit; of_first = first; of_second = second; soft = true }) result }
     {
-        let x = soft_given(dibit, first, second);
-        one_push(self, x, room)
+        one_push(self, soft_given(dibit, first, second), room)
     }
 
     // Takes hard dibits one after the other, up to the first that sends frames or is refused. `used` of them were taken: the caller goes on with the rest.
+    #[tactic(auto, unfolding(sync_inputs::specs::Inputs::inputs_of))]
     pub fn feed(self, dibits: &[u8], room: &mut [u8]) -> Fed
         requires { ValidSynchroniser self }
         ensures { FedBy room.old room.new (fed_of (length room.old) (hardly dibits.now) (view self)) result }
     {
-        let mut bits = self.bits;
-        let mut reliabilities = self.reliabilities;
-        let numbers = self.numbers;
-        let d = feed_into(
-            &mut bits,
-            &mut reliabilities,
-            numbers,
-            Source::Hard,
-            dibits,
-            dibits,
-            0,
-            room,
-        );
-        feed_answer(bits, reliabilities, d)
+        one_feed(self, Source::Hard(dibits), room)
     }
 
     // Takes dibits in the same way with two reliabilities each, as far as both slices reach.
+    #[tactic(auto, unfolding(sync_inputs::specs::Inputs::inputs_of))]
     pub fn feed_soft(self, dibits: &[u8], reliable: &[u8], room: &mut [u8]) -> Fed
         requires { ValidSynchroniser self }
         ensures { FedBy room.old room.new (fed_of (length room.old) (softly dibits.now reliable.now) (view self)) result }
     {
-        let mut bits = self.bits;
-        let mut reliabilities = self.reliabilities;
-        let numbers = self.numbers;
-        let d = feed_into(
-            &mut bits,
-            &mut reliabilities,
-            numbers,
-            Source::Soft,
-            dibits,
-            reliable,
-            0,
-            room,
-        );
-        feed_answer(bits, reliabilities, d)
+        one_feed(self, Source::Soft { dibits, reliable }, room)
     }
 
     // Takes packed bytes in the same way, four dibits each, from dibit `start` on. A push that sends can cut a byte: the caller goes on with `start + used`.
+    #[tactic(auto, unfolding(sync_inputs::specs::Inputs::inputs_of))]
     pub fn feed_packed(self, bytes: &[u8], start: usize, room: &mut [u8]) -> Fed
         requires { ValidSynchroniser self }
         ensures { FedBy room.old room.new (fed_of (length room.old) (hardly (drop start (unpacked bytes.now))) (view self)) result }
     {
-        let mut bits = self.bits;
-        let mut reliabilities = self.reliabilities;
-        let numbers = self.numbers;
-        let d = feed_into(
-            &mut bits,
-            &mut reliabilities,
-            numbers,
-            Source::Packed,
-            bytes,
-            bytes,
-            start,
-            room,
-        );
-        feed_answer(bits, reliabilities, d)
+        one_feed(self, Source::Packed { bytes, start }, room)
     }
 
     // Tells whether a lock is held.
     pub fn locked(self) -> bool
         ensures { result ≡ (view self).figures.locked }
     {
-        let n = self.numbers;
-        n.figures.locked
+        self.numbers.figures.locked
     }
 
     // Counts the slips followed.
@@ -167,9 +130,7 @@ impl Synchroniser {
         requires { ValidSynchroniser self }
         ensures { result ≡ slips (view self) }
     {
-        let n = self.numbers;
-        let f = n.figures;
-        slips_of(f)
+        slips_of(self.numbers.figures)
     }
 
     // Gives the signed net slip: two bits for each slip to a later symbol, less two for each to an earlier one.
@@ -177,58 +138,52 @@ impl Synchroniser {
         requires { ValidSynchroniser self }
         ensures { result ≡ net_slip (view self) }
     {
-        let n = self.numbers;
-        let f = n.figures;
-        net_slip_of(f)
+        net_slip_of(self.numbers.figures)
     }
 
     // Counts the frames sent.
     pub fn frames(self) -> u64
         ensures { result ≡ (view self).figures.frames }
     {
-        let n = self.numbers;
-        n.figures.frames
+        self.numbers.figures.frames
     }
 
     // Counts those of them that showed two markers.
     pub fn synchronised_frames(self) -> u64
         ensures { result ≡ (view self).figures.synchronised }
     {
-        let n = self.numbers;
-        n.figures.synchronised
+        self.numbers.figures.synchronised
     }
 
     // Counts the bits pending.
+    #[tactic(auto, using(sync_numbers::proofs::Pendings::pending_is))]
     pub fn pending_bits(self) -> usize
         ensures { result ≡ length (pending (view self)) }
     {
-        let n = self.numbers;
-        n.pending
+        self.numbers.pending
     }
 
     // Counts the dibits taken.
     pub fn dibits_taken(self) -> u64
         ensures { result ≡ (view self).figures.taken }
     {
-        let n = self.numbers;
-        n.figures.taken
+        self.numbers.figures.taken
     }
 
     // Gives the offset below which no further frame goes out.
     pub fn settled(self) -> u64
         ensures { result ≡ (view self).figures.clock }
     {
-        let n = self.numbers;
-        n.figures.clock
+        self.numbers.figures.clock
     }
 
     // Gives the end of the stream: the settled offset and the bits pending behind it.
+    #[tactic(auto, using(sync_numbers::proofs::Pendings::pending_is))]
     pub fn stream_end(self) -> u64
         requires { ValidSynchroniser self }
         ensures { result ≡ stream_end (view self) }
     {
-        let n = self.numbers;
-        n.figures.clock + n.pending as u64
+        self.numbers.figures.clock + self.numbers.pending as u64
     }
 
     // Tells how many dibits can be pushed or fed before one searches or sends: until then no frame goes out and the settled offset stays.
@@ -236,74 +191,60 @@ impl Synchroniser {
         requires { ValidSynchroniser self }
         ensures { result ≡ quiet (view self) }
     {
-        let n = self.numbers;
-        quiet_of(n)
-    }
-}
-
-// Puts together what a feed hands back: its answer, and the rings as it left them.
-fn feed_answer(bits: [u8; MOST_HELD], reliabilities: [u8; MOST_HELD], d: Into) -> Fed
-    ensures { result ≡ fed_with bits reliabilities d }
-{
-    let drained = d.drained;
-    let numbers = drained.numbers;
-    let heads = drained.heads;
-    let next = Synchroniser {
-        bits,
-        reliabilities,
-        numbers,
-    };
-    let answer = d.answer;
-    let pushed = Pushed {
-        answer,
-        count: drained.count,
-        heads,
-        next,
-    };
-    Fed {
-        used: d.took,
-        pushed,
+        quiet_of(self.numbers)
     }
 }
 
 // Puts together what a push hands back: its answer, its frames and the next synchroniser.
-fn handed(answer: Push, d: Drained, next: Synchroniser) -> Pushed
-    ensures { result ≡ handed_of answer d next }
+fn handed(answer: Result<(), Refusal>, drained: Drained, next: Synchroniser) -> Pushed
+    ensures { result ≡ handed_of answer drained next }
 {
-    let heads = d.heads;
+    let Drained { count, heads, .. } = drained;
     Pushed {
         answer,
-        count: d.count,
+        count,
         heads,
         next,
     }
 }
 
 // Makes one push. It writes into the state that it hands back: a state that is taken apart and put together again is copied once more.
-fn one_push(s: Synchroniser, x: Given, room: &mut [u8]) -> Pushed
+fn one_push(s: Synchroniser, given: Given, room: &mut [u8]) -> Pushed
     requires { ValidSynchroniser s }
-    ensures { PushedBy room.old room.new s (input_of x) result }
+    ensures { PushedBy room.old room.new s (input_of given) result }
 {
-    let k = s.numbers;
-    let answer = answer_to(k.figures.taken, x.dibit, room.len());
-    let took = made(answer);
+    let answer = answer_to(s.numbers.figures.taken, given.dibit, room.len());
     let mut next = s;
-    if took == 0 {
-        let none = nothing(k);
-        return handed(answer, none, next);
+    if made(answer) == 0 {
+        return handed(answer, nothing(s.numbers), next);
     }
-    let end = k.first + (k.restorable + k.pending);
-    put(&mut next.bits, end, x.dibit / 2, x.dibit % 2);
-    put(&mut next.reliabilities, end, x.first, x.second);
-    let one = appended(k, x.soft);
-    let busy = enough(one);
-    if busy {
-        let d = sends(&next.bits, &next.reliabilities, one, room);
-        let after = d.numbers;
-        next.numbers = after;
-        return handed(answer, d, next);
+    let one = brought(&mut next.bits, &mut next.reliabilities, s.numbers, given);
+    let drained = if enough(one) {
+        sends(&next.bits, &next.reliabilities, one, room)
+    } else {
+        nothing(one)
+    };
+    next.numbers = drained.numbers;
+    handed(answer, drained, next)
+}
+
+// Makes the pushes of a source in the same way. It is written into each of the three feeds: where it is not, a feed copies the state once more.
+#[inline(always)]
+fn one_feed(s: Synchroniser, source: Source<'_>, room: &mut [u8]) -> Fed
+    requires { ValidSynchroniser s }
+    ensures { FedBy room.old room.new (fed_of (length room.old) (inputs_of source.entry) (view s)) result }
+{
+    let mut next = s;
+    let into = feed_into(
+        &mut next.bits,
+        &mut next.reliabilities,
+        s.numbers,
+        source,
+        room,
+    );
+    next.numbers = into.drained.numbers;
+    Fed {
+        used: into.took,
+        pushed: handed(into.answer, into.drained, next),
     }
-    next.numbers = one;
-    let none = nothing(one);
-    handed(answer, none, next)
 }

@@ -1,5 +1,6 @@
 -- Demand 3 over the calls: a history of calls follows the rules, and so the demand over the rules is one over the calls.
 -- Assumes nothing.
+use Rattle.std.proofs.Common.{Result, Ok, Err}
 use mathlib.Core.Path.{◌≡◌, refl, sym, ap, ap₂, ◌∙◌, subst}
 use mathlib.Core.Logic.{inl, inr}
 use mathlib.Core.List.{List, [], ◌∷◌, ◌++◌, append_assoc, append-nil, map}
@@ -18,8 +19,6 @@ use Rattle.sync_frames.specs.Frames.{head_of, heads_of}
 use Rattle.sync.specs.Answers.{PushedBy}
 use Rattle.sync_inputs.specs.Answers.{answer_to, push_of, takes}
 use Rattle.bits.specs.declared.Refusal.TheVariants.{Dibit, FrameRoom, StreamEnd}
-use Rattle.sync_inputs.specs.declared.Push.{Push}
-use Rattle.sync_inputs.specs.declared.Push.TheVariants.{Taken, Refused}
 use Rattle.sync_rules.specs.Matching.{errors, locks_at, in_place}
 use Rattle.sync_rules.specs.Moves.{no_moves}
 use Rattle.sync_rules.specs.State.{State, Input, start, hard, pending, bring}
@@ -39,6 +38,7 @@ use Rattle.sync_steps.specs.Feeds.{FedOut, one_more, unless_sent, unless_refused
 use Rattle.sync_call_rules.proofs.Feeding.{feed_rules_lem}
 use Rattle.sync_call_rules.proofs.Shown.{shown_append}
 use Rattle.sync_call_rules.proofs.Slots.{none_fit, Fit, drain_fit, drain_most, read_slots}
+use Rattle.bits.specs.declared.Refusal.{Refusal}
 
 -- ---- made_by call
 abbrev pub out : Call → List Got
@@ -101,29 +101,29 @@ no_frames room = record { fit = none_fit; most = omega arith; large = λ h. absu
 step_fits : (room : ℕ) (x : Input) (m : State) → 1296 ≤ room → Fits room (step x m).sent
 step_fits room x m h = record { fit = step_fit x m; most = step_most x m; large = λ w. h }
 
-taken_fits : (room : ℕ) (x : Input) (m : State) → answer_to room x m ≡ Taken → 1296 ≤ room
+taken_fits : (room : ℕ) (x : Input) (m : State) → answer_to room x m ≡ Ok tt → 1296 ≤ room
 unfolding answer_to takes
 taken_fits room x m e = go (ltb 3 x.dibit) (ltb room 1296) refl e
   where
-    go : (a b : Bool) → ltb room 1296 ≡ b → cond a (Refused Dibit) (cond b (Refused FrameRoom) (cond (leb (2 ^ 40) m.figures.taken) (Refused StreamEnd) Taken)) ≡ Taken → 1296 ≤ room
+    go : (a b : Bool) → ltb room 1296 ≡ b → cond a (Err Dibit) (cond b (Err FrameRoom) (cond (leb (2 ^ 40) m.figures.taken) (Err StreamEnd) (Ok (tt {0})))) ≡ Ok (tt {0}) → 1296 ≤ room
     go true b eb w = absurd (omega (arith, ap takes w))
     go false true eb w = absurd (omega (arith, ap takes w))
     go false false eb w = ltb-false room 1296 eb
 
-pub push_fits : (room : ℕ) (x : Input) (m : State) (a : Push) → answer_to room x m ≡ a → Fits room (push_of a x m).sent
+pub push_fits : (room : ℕ) (x : Input) (m : State) (a : Result Unit Refusal) → answer_to room x m ≡ a → Fits room (push_of a x m).sent
 unfolding push_of
-push_fits room x m Taken e = step_fits room x m (taken_fits room x m e)
-push_fits room x m (Refused f) e = no_frames room
+push_fits room x m (Ok u) e = step_fits room x m (taken_fits room x m e)
+push_fits room x m (Err f) e = no_frames room
 
 sent_fits : (room : ℕ) (fs : List Frame) (next : State) (rest : FedOut) → Fits room fs → Fits room rest.sent → Fits room (unless_sent fs next rest).sent
 unfolding unless_sent one_more
 sent_fits room [] next rest a b = b
 sent_fits room (f ∷ fs) next rest a b = a
 
-answer_fits : (room : ℕ) (x : Input) (m : State) (rest : FedOut) → Fits room rest.sent → (a : Push) → answer_to room x m ≡ a → Fits room (unless_refused a m (step x m) rest).sent
+answer_fits : (room : ℕ) (x : Input) (m : State) (rest : FedOut) → Fits room rest.sent → (a : Result Unit Refusal) → answer_to room x m ≡ a → Fits room (unless_refused a m (step x m) rest).sent
 unfolding unless_refused
-answer_fits room x m rest b Taken e = sent_fits room (step x m).sent (step x m).next rest (step_fits room x m (taken_fits room x m e)) b
-answer_fits room x m rest b (Refused f) e = no_frames room
+answer_fits room x m rest b (Ok u) e = sent_fits room (step x m).sent (step x m).next rest (step_fits room x m (taken_fits room x m e)) b
+answer_fits room x m rest b (Err f) e = no_frames room
 
 pub fed_fits : (room : ℕ) (xs : List Input) (m : State) → Fits room (fed_of room xs m).sent
 unfolding fed_of
@@ -142,10 +142,10 @@ out_read room fs w left hs eh el = go (eqb (length fs) 0) refl
     go true e = laid_none room fs (eqb-true (length fs) 0 e) left hs eh
     go false e = frames_read fs room left hs w.fit w.most (w.large (above (length fs) (eqb-false (length fs) 0 e))) eh el
 
-pub made_run : (a : Push) (x : Input) (m : State) → ((push_of a x m).next ≡ (run (made a x) m).next) × ((push_of a x m).sent ≡ (run (made a x) m).sent)
+pub made_run : (a : Result Unit Refusal) (x : Input) (m : State) → ((push_of a x m).next ≡ (run (made a x) m).next) × ((push_of a x m).sent ≡ (run (made a x) m).sent)
 unfolding push_of made run
-made_run Taken x m = (refl, sym (append-nil (step x m).sent))
-made_run (Refused f) x m = (refl, refl)
+made_run (Ok u) x m = (refl, sym (append-nil (step x m).sent))
+made_run (Err f) x m = (refl, refl)
 
 does_push : (s : Synchroniser) (x : Input) (room left : List ℕ) (r : Pushed) → PushedBy room left s x r → Does s (pushing x room left r)
 unfolding answer_of left_by made_by
@@ -154,7 +154,7 @@ does_push s x room left r p =
     let a = answer_to (length room) x m in
     let o = push_of a x m in
     let w = push_fits (length room) x m a refl in
-    let e : made a x ≡ made r.answer x = ap (λ (z : Push). made z x) (sym p.answer) in
+    let e : made a x ≡ made r.answer x = ap (λ (z : Result Unit Refusal). made z x) (sym p.answer) in
     record {
       valid = p.valid;
       next = p.next ∙ (made_run a x m).0 ∙ ap (λ (xs : List Input). (run xs m).next) e;
@@ -279,12 +279,12 @@ record Ends (s : Synchroniser) (c : Call) : Type 0 where
   made : made_by c ≡ earlier ++ (last ∷ [])
   loses : Loses last (run earlier (view s)).next
 
-taken_ends : (s : Synchroniser) (x : Input) (room left : List ℕ) (r : Pushed) → 0 < r.count → r.next.numbers.figures.locked ≡ false → (a : Push) → r.answer ≡ a
+taken_ends : (s : Synchroniser) (x : Input) (room left : List ℕ) (r : Pushed) → 0 < r.count → r.next.numbers.figures.locked ≡ false → (a : Result Unit Refusal) → r.answer ≡ a
     → r.count ≡ length (push_of a x (view s)).sent → view r.next ≡ (push_of a x (view s)).next → Ends s (pushing x room left r)
 unfolding made_by made run push_of
-taken_ends s x room left r n w Taken e count next =
-    record { earlier = []; last = x; made = ap (λ (z : Push). made z x) e; loses = ends_lock x (view s) (omega (arith, count)) (sym (ap (λ (z : State). z.figures.locked) next) ∙ w) }
-taken_ends s x room left r n w (Refused f) e count next = absurd (zero_not _ n count)
+taken_ends s x room left r n w (Ok u) e count next =
+    record { earlier = []; last = x; made = ap (λ (z : Result Unit Refusal). made z x) e; loses = ends_lock x (view s) (omega (arith, count)) (sym (ap (λ (z : State). z.figures.locked) next) ∙ w) }
+taken_ends s x room left r n w (Err f) e count next = absurd (zero_not _ n count)
 
 ends_push : (s : Synchroniser) (x : Input) (room left : List ℕ) (r : Pushed) → PushedBy room left s x r → 0 < r.count → r.next.numbers.figures.locked ≡ false → Ends s (pushing x room left r)
 unfolding made_by run
@@ -294,7 +294,7 @@ ends_push s x room left r p n w = go r.answer refl
     m = view s
 
     same : push_of (answer_to (length room) x (view s)) x (view s) ≡ push_of r.answer x (view s)
-    same = ap (λ (z : Push). push_of z x (view s)) (sym p.answer)
+    same = ap (λ (z : Result Unit Refusal). push_of z x (view s)) (sym p.answer)
 
     count : r.count ≡ length (push_of r.answer x (view s)).sent
     count = p.many ∙ ap (λ (o : Out). length o.sent) same
@@ -302,8 +302,8 @@ ends_push s x room left r p n w = go r.answer refl
     next : view r.next ≡ (push_of r.answer x (view s)).next
     next = p.next ∙ ap (λ (o : Out). o.next) same
 
-    go : (a : Push) → r.answer ≡ a → Ends s (pushing x room left r)
-    go a e = taken_ends s x room left r n w a e (count ∙ ap (λ (z : Push). length (push_of z x (view s)).sent) e) (next ∙ ap (λ (z : Push). (push_of z x (view s)).next) e)
+    go : (a : Result Unit Refusal) → r.answer ≡ a → Ends s (pushing x room left r)
+    go a e = taken_ends s x room left r n w a e (count ∙ ap (λ (z : Result Unit Refusal). length (push_of z x (view s)).sent) e) (next ∙ ap (λ (z : Result Unit Refusal). (push_of z x (view s)).next) e)
 
 take_snoc : (xs : List Input) (j : ℕ) (d : Input) → j < length xs → take (suc j) xs ≡ take j xs ++ (get_or xs j d ∷ [])
 take_snoc [] j d h = absurd (omega arith)

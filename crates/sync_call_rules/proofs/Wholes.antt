@@ -1,5 +1,6 @@
 -- The frames that a history of calls hands out, with their reliabilities.
 -- Assumes nothing.
+use Rattle.std.proofs.Common.{Result, Ok, Err}
 use mathlib.Core.Path.{◌≡◌, refl, sym, ap, ap₂, ◌∙◌, subst}
 use mathlib.Core.List.{List, [], ◌∷◌, ◌++◌, map}
 use mathlib.Core.Bool.{Bool}
@@ -10,8 +11,6 @@ use Rattle.sync.specs.declared.Synchroniser.{Synchroniser}
 use Rattle.sync.specs.declared.Pushed.{Pushed}
 use Rattle.sync.specs.declared.Fed.{Fed}
 use Rattle.sync_rules.specs.declared.Head.{Head}
-use Rattle.sync_inputs.specs.declared.Push.{Push}
-use Rattle.sync_inputs.specs.declared.Push.TheVariants.{Taken, Refused}
 use Rattle.sync.specs.View.{ValidSynchroniser, view}
 use Rattle.sync.specs.Answers.{PushedBy}
 use Rattle.sync.specs.Feeds.{FedBy}
@@ -32,27 +31,28 @@ use Rattle.sync_rules.proofs.Reliabilities.{step_reached, step_marked}
 use Rattle.sync_call_rules.proofs.Feeding.{feed_rules_lem}
 use Rattle.sync_call_rules.proofs.Slots.{read_whole}
 use Rattle.sync_call_rules.proofs.Histories.{Fits, heads_are, push_fits, fed_fits, made_run, Does, does}
+use Rattle.bits.specs.declared.Refusal.{Refusal}
 
 -- ---- frames have reliabilities by the soft mark of the state that they leave
 no_frames_marked : (soft : Bool) → Marked soft []
 unfolding Marked
 no_frames_marked soft = tt
 
-push_marked : (a : Push) (x : Input) (m : State) (ys : List Input) → m ≡ state_after ys → Marked (push_of a x m).next.figures.soft (push_of a x m).sent
+push_marked : (a : Result Unit Refusal) (x : Input) (m : State) (ys : List Input) → m ≡ state_after ys → Marked (push_of a x m).next.figures.soft (push_of a x m).sent
 unfolding push_of
-push_marked Taken x m ys e = step_marked x m ys e
-push_marked (Refused f) x m ys e = no_frames_marked m.figures.soft
+push_marked (Ok u) x m ys e = step_marked x m ys e
+push_marked (Err f) x m ys e = no_frames_marked m.figures.soft
 
 sent_marked : (fs : List Frame) (next : State) (rest : FedOut) → Marked next.figures.soft fs → Marked rest.next.figures.soft rest.sent → Marked (unless_sent fs next rest).next.figures.soft (unless_sent fs next rest).sent
 unfolding unless_sent one_more
 sent_marked [] next rest h k = k
 sent_marked (f ∷ fs) next rest h k = h
 
-answer_marked : (a : Push) (x : Input) (m : State) (rest : FedOut) → Marked (step x m).next.figures.soft (step x m).sent → Marked rest.next.figures.soft rest.sent
+answer_marked : (a : Result Unit Refusal) (x : Input) (m : State) (rest : FedOut) → Marked (step x m).next.figures.soft (step x m).sent → Marked rest.next.figures.soft rest.sent
     → Marked (unless_refused a m (step x m) rest).next.figures.soft (unless_refused a m (step x m) rest).sent
 unfolding unless_refused
-answer_marked Taken x m rest h k = sent_marked (step x m).sent (step x m).next rest h k
-answer_marked (Refused f) x m rest h k = no_frames_marked m.figures.soft
+answer_marked (Ok u) x m rest h k = sent_marked (step x m).sent (step x m).next rest h k
+answer_marked (Err f) x m rest h k = no_frames_marked m.figures.soft
 
 fed_marked : (room : ℕ) (xs : List Input) (m : State) (ys : List Input) → m ≡ state_after ys → Marked (fed_of room xs m).next.figures.soft (fed_of room xs m).sent
 unfolding fed_of
@@ -80,7 +80,7 @@ push_whole s x room left r p ys e =
     let w = push_fits (length room) x m a refl in
     let soft : o.next.figures.soft ≡ r.next.numbers.figures.soft = sym (ap (λ (n : State). n.figures.soft) p.next) in
     whole_read o.sent room left r.next.numbers.figures.soft (take r.count r.heads) w (subst (λ (b : Bool). Marked b o.sent) soft (push_marked a x m ys e)) (heads_are r.count r.heads o.sent w.most p.many p.figures) p.stored
-    ∙ ap whole_as ((made_run a x m).1 ∙ ap (λ (z : Push). (run (made z x) m).sent) (sym p.answer))
+    ∙ ap whole_as ((made_run a x m).1 ∙ ap (λ (z : Result Unit Refusal). (run (made z x) m).sent) (sym p.answer))
 
 feed_whole : (s : Synchroniser) (xs : List Input) (room left : List ℕ) (f : Fed) → FedBy room left (fed_of (length room) xs (view s)) f → (ys : List Input) → view s ≡ state_after ys → whole_out (feeding xs room left f) ≡ whole_as (run (made_by (feeding xs room left f)) (view s)).sent
 unfolding answer_of left_by made_by

@@ -1,11 +1,9 @@
 -- Histories of calls: `push`, `push_soft` and the feeds, refused ones among them, each on the state that the one before handed back.
 -- Assumes nothing.
-use Rattle.std.specs.Prelude.{◌≡◌, ◌⊎◌, List, [], ◌∷◌, ◌++◌, Bool, true, false, cond, ℕ, zero, suc, ◌+◌, ◌-◌, ◌*◌, ◌<◌, length, take, drop}
+use Rattle.std.specs.Prelude.{◌≡◌, ◌⊎◌, List, [], ◌∷◌, ◌++◌, Bool, true, false, cond, ℕ, zero, suc, ◌+◌, ◌-◌, ◌*◌, ◌<◌, length, take, drop, Result, Ok, Err}
 use Rattle.bits.specs.Sizes.{frame_bits}
 use Rattle.sync_rules.specs.Sizes.{slot_size}
 use Rattle.sync.specs.declared.Synchroniser.{Synchroniser}
-use Rattle.sync_inputs.specs.declared.Push.{Push}
-use Rattle.sync_inputs.specs.declared.Push.TheVariants.{Taken, Refused}
 use Rattle.sync.specs.declared.Pushed.{Pushed}
 use Rattle.sync.specs.declared.Fed.{Fed}
 use Rattle.sync_rules.specs.declared.Head.{Head}
@@ -20,6 +18,7 @@ use Rattle.sync_rules.specs.State.{Input}
 use Rattle.sync_rules.specs.Frames.{Frame}
 use Rattle.sync_rules.specs.Room.{envelope_of}
 use Rattle.sync_rules.specs.Demand.{stream}
+use Rattle.bits.specs.declared.Refusal.{Refusal}
 
 -- one call: the push, or the pushes that a feed had to make; the room's bytes when it was lent and when it came back; and the answer
 pub data Call : Type 0 where
@@ -41,9 +40,9 @@ Meets s (pushing x room left r) = PushedBy room left s x r
 Meets s (feeding xs room left f) = FedBy room left (fed_of (length room) xs (view s)) f
 
 -- the pushes that it made, a refused one not among them
-unfoldable pub made : Push → Input → List Input
-made Taken x = x ∷ []
-made (Refused f) x = []
+unfoldable pub made : Result Unit Refusal → Input → List Input
+made (Ok u) x = x ∷ []
+made (Err f) x = []
 
 unfoldable pub made_by : Call → List Input
 unfolding made

@@ -3,32 +3,23 @@
 
 #![tactic(auto)]
 
-ghost use Rattle.std.specs.Prelude.{◌≡◌, ◌||◌, ◌+◌, ◌*◌, ◌^◌, ◌<◌};
+ghost use Rattle.std.specs.Prelude.{◌≡◌, ◌+◌, ◌*◌, ◌^◌, ◌<◌};
 ghost use Rattle.std.proofs.Math.IntN.{sub_ℕ};
 ghost use Rattle.sync_rules.specs.Sizes.{most_dibits};
 ghost use Rattle.sync_rules.specs.Figures.{dibit_taken, bits_passed};
 
 use sync_rules::StreamFigures;
 
-// Tells whether one of the two holds.
-fn or(a: bool, b: bool) -> bool
-    ensures { result ≡ (a || b) }
-{
-    if a {
-        return true;
-    }
-    b
-}
-
 // Counts a dibit, of a soft push or a hard one.
 pub fn dibit_taken(figures: StreamFigures, soft: bool) -> StreamFigures
     requires { figures.taken < most_dibits }
     ensures { result ≡ dibit_taken soft figures }
 {
-    let mut f = figures;
-    f.taken = figures.taken + 1;
-    f.soft = or(figures.soft, soft);
-    f
+    StreamFigures {
+        taken: figures.taken + 1,
+        soft: figures.soft || soft,
+        ..figures
+    }
 }
 
 // Counts bits passed in a search, which found a lock or did not.
@@ -36,14 +27,12 @@ pub fn bits_passed(figures: StreamFigures, bits: u64, found: bool) -> StreamFigu
     requires { figures.clock + bits < 2 ^ 64 }
     ensures { result ≡ bits_passed bits found figures }
 {
-    let mut f = figures;
-    f.clock = figures.clock + bits;
-    f.locked = found;
-    if found {
-        f.failures = 0;
-        return f;
+    StreamFigures {
+        clock: figures.clock + bits,
+        failures: if found { 0 } else { figures.failures },
+        locked: found,
+        ..figures
     }
-    f
 }
 
 // Counts the slips followed, to a later symbol and to an earlier one.

@@ -1,12 +1,11 @@
 -- What the functions of a frame do to the numbers of a state, each tied to its step of the rules.
 -- Assumes nothing.
-use Rattle.std.specs.Prelude.{◌≡◌, List, [], ◌∷◌, ◌++◌, Bool, true, false, ℕ, zero, suc, ◌+◌, ◌-◌, ◌*◌, ◌≤◌, length}
+use Rattle.std.specs.Prelude.{◌≡◌, List, [], ◌∷◌, ◌++◌, Bool, true, false, ℕ, zero, suc, ◌+◌, ◌-◌, ◌*◌, ◌≤◌, length, Option, Some, None, is_some}
 use Rattle.std.proofs.lemmas.List.Edits.{sets}
 use Rattle.sync_rules.specs.Sizes.{in_place_bits, out_of_place_bits}
 use Rattle.sync_numbers.specs.declared.numbers.Numbers.{Numbers}
 use Rattle.sync_frames.specs.declared.frames.Drained.{Drained}
 use Rattle.sync_frames.specs.declared.frames.Framed.{Framed}
-use Rattle.sync_frames.specs.declared.frames.Readiness.{Readiness}
 use Rattle.sync_rules.specs.declared.Head.{Head}
 use Rattle.sync_rules.specs.Ring.{ring}
 use Rattle.sync_numbers.specs.View.{view_of, Sound, Low, Steady, Few}
@@ -56,12 +55,12 @@ pub record Ready (c : Numbers) (placed : Bool) : Type 0 where
   pub enough : in_place_bits ≤ c.pending
   pub more : placed ≡ false → out_of_place_bits ≤ c.pending
 
--- whether a frame is ready
-pub record Looked (bits : List ℕ) (c : Numbers) (r : Readiness) : Type 0 where
-  pub same : (ys : List ℕ) → r.ready ≡ ready (view_of bits ys c)
-  pub can : r.ready ≡ true → Ready c r.placed
-  pub seen : r.ready ≡ true → r.placed ≡ in_place (ring bits (c.first + c.restorable) c.pending) 0
-  pub few : r.ready ≡ false → c.figures.locked ≡ true → c.pending ≤ out_of_place_bits - 1
+-- of a frame that is ready, whether it is in place
+pub record Looked (bits : List ℕ) (c : Numbers) (r : Option Bool) : Type 0 where
+  pub same : (ys : List ℕ) → is_some r ≡ ready (view_of bits ys c)
+  pub can : (placed : Bool) → r ≡ Some placed → Ready c placed
+  pub seen : (placed : Bool) → r ≡ Some placed → placed ≡ in_place (ring bits (c.first + c.restorable) c.pending) 0
+  pub few : r ≡ None → c.figures.locked ≡ true → c.pending ≤ out_of_place_bits - 1
 
 -- the figures of a frame that go back by value
 abbrev pub head_of : Frame → Head

@@ -17,21 +17,11 @@ use sync_rules::{
     Head, IN_PLACE_BITS, MOST_HELD, Moves, OUT_OF_PLACE_BITS, SLOT_SIZE, no_head, no_moves,
 };
 
-// The third slot of the room begins at this byte.
-const THIRD_SLOT: usize = 2 * SLOT_SIZE;
-
 // What is said of a frame, and the numbers that it leaves.
 #[derive(Clone, Copy)]
 pub struct Framed {
     pub numbers: Numbers,
     pub head: Head,
-}
-
-// Whether a frame is ready, and whether it is in place.
-#[derive(Clone, Copy)]
-pub struct Readiness {
-    pub ready: bool,
-    pub placed: bool,
 }
 
 // The frames that went out, and the numbers that they leave.
@@ -52,31 +42,21 @@ fn front(bits: &[u8; MOST_HELD], c: Numbers) -> Numbers
     ensures { Fronted bits.now c result }
 {
     let base = c.first + c.restorable;
-    let a = matches_at(bits, base, 0);
-    if a {
-        return c;
+    if matches_at(bits, base, 0) {
+        c
+    } else if matches_at(bits, base + 2, 0) {
+        slipped(dropped(c, 2), 1, 0)
+    } else if c.restorable == 2 && matches_at(bits, c.first, 0) {
+        slipped(restored(c), 0, 1)
+    } else {
+        c
     }
-    let b = matches_at(bits, base + 2, 0);
-    if b {
-        let d = dropped(c, 2);
-        return slipped(d, 1, 0);
-    }
-    if c.restorable == 2 {
-        let first = c.first;
-        let e = matches_at(bits, first, 0);
-        if e {
-            let g = restored(c);
-            return slipped(g, 0, 1);
-        }
-        return c;
-    }
-    c
 }
 
 // Sends the frame at the front, its second and third segment p and q behind it, with these moves: writes it into the room and counts it.
-fn frame_at<'a>(
-    bits: &'a [u8; MOST_HELD],
-    reliabilities: &'a [u8; MOST_HELD],
+fn frame_at(
+    bits: &[u8; MOST_HELD],
+    reliabilities: &[u8; MOST_HELD],
     c: Numbers,
     room: &mut [u8],
     to: usize,
@@ -90,10 +70,10 @@ fn frame_at<'a>(
     ensures { (v : Move) → moves ≡ moves_at v p q → SentBy bits.now reliabilities.now room.old room.new to c.pending (send_at v (view_of bits.now reliabilities.now c) p q) result }
 {
     let base = c.first + c.restorable;
-    let x = marker(bits, base, 0);
-    let y = marker(bits, base + p, 1);
-    let z = marker(bits, base + q, 2);
-    let matched = two_of(x.matched, y.matched, z.matched);
+    let first = marker(bits, base, 0);
+    let second = marker(bits, base + p, 1);
+    let third = marker(bits, base + q, 2);
+    let matched = two_of(first.matched, second.matched, third.matched);
     lay_bits(&mut *room, to, bits, base, p, q);
     lay_soft(
         &mut *room,
@@ -104,20 +84,21 @@ fn frame_at<'a>(
         q,
         c.figures.soft,
     );
-    let numbers = sent(c, q, matched);
-    let head = Head {
-        offset: c.figures.clock,
-        matched,
-        errors: x.errors + y.errors + z.errors,
-        moves,
-    };
-    Framed { numbers, head }
+    Framed {
+        numbers: sent(c, q, matched),
+        head: Head {
+            offset: c.figures.clock,
+            errors: first.errors + second.errors + third.errors,
+            matched,
+            moves,
+        },
+    }
 }
 
 // Sends one frame, in place or not.
-fn frame<'a>(
-    bits: &'a [u8; MOST_HELD],
-    reliabilities: &'a [u8; MOST_HELD],
+fn frame(
+    bits: &[u8; MOST_HELD],
+    reliabilities: &[u8; MOST_HELD],
     c: Numbers,
     room: &mut [u8],
     to: usize,
@@ -130,89 +111,30 @@ fn frame<'a>(
     ensures { SentBy bits.now reliabilities.now room.old room.new to (c.pending + 2) (send (view_of bits.now reliabilities.now c)) result }
 {
     if placed {
-        let moves = no_moves();
-        return frame_at(bits, reliabilities, c, room, to, 128, 256, moves);
+        return frame_at(bits, reliabilities, c, room, to, 128, 256, no_moves());
     }
     let d = front(bits, c);
     let base = d.first + d.restorable;
     let p = segment_at(bits, base, 128, 1);
-    let at = p + 128;
-    let q = segment_at(bits, base, at, 2);
-    let e = shifted(d, p, q);
+    let q = segment_at(bits, base, p + 128, 2);
     let moves = moves_of(c, d, p, q);
-    frame_at(bits, reliabilities, e, room, to, p, q, moves)
+    frame_at(bits, reliabilities, shifted(d, p, q), room, to, p, q, moves)
 }
 
-// Tells whether a frame is ready, and whether it is in place.
-fn look(bits: &[u8; MOST_HELD], c: Numbers) -> Readiness
+// Tells of the frame at the front whether it is in place, where it is ready.
+fn look(bits: &[u8; MOST_HELD], c: Numbers) -> Option<bool>
     requires fact_1 { Bits bits.now }
     requires fact_2 { Steady c }
     ensures { Looked bits.now c result }
 {
-    if c.figures.locked {
-        if c.pending < IN_PLACE_BITS {
-            return Readiness {
-                ready: false,
-                placed: false,
-            };
-        }
-        let base = c.first + c.restorable;
-        let placed = in_place(bits, base);
-        if placed {
-            return Readiness {
-                ready: true,
-                placed: true,
-            };
-        }
-        if c.pending < OUT_OF_PLACE_BITS {
-            return Readiness {
-                ready: false,
-                placed: false,
-            };
-        }
-        return Readiness {
-            ready: true,
-            placed: false,
-        };
+    if !c.figures.locked || c.pending < IN_PLACE_BITS {
+        return None;
     }
-    Readiness {
-        ready: false,
-        placed: false,
-    }
-}
-
-// Hands back three frames, and the numbers that they leave.
-fn three_out(numbers: Numbers, first: Head, second: Head, third: Head) -> Drained
-    ensures { result ≡ drained_of numbers 3 (first ∷ second ∷ third ∷ []) }
-{
-    Drained {
-        numbers,
-        count: 3,
-        heads: [first, second, third],
-    }
-}
-
-// Hands back two.
-fn two_out(numbers: Numbers, first: Head, second: Head) -> Drained
-    ensures { result ≡ drained_of numbers 2 (first ∷ second ∷ no_head ∷ []) }
-{
-    let none = no_head();
-    Drained {
-        numbers,
-        count: 2,
-        heads: [first, second, none],
-    }
-}
-
-// Hands back one.
-fn one_out(numbers: Numbers, first: Head) -> Drained
-    ensures { result ≡ drained_of numbers 1 (first ∷ no_head ∷ no_head ∷ []) }
-{
-    let none = no_head();
-    Drained {
-        numbers,
-        count: 1,
-        heads: [first, none, none],
+    let placed = in_place(bits, c.first + c.restorable);
+    if placed || OUT_OF_PLACE_BITS <= c.pending {
+        Some(placed)
+    } else {
+        None
     }
 }
 
@@ -220,18 +142,18 @@ fn one_out(numbers: Numbers, first: Head) -> Drained
 pub fn nothing(numbers: Numbers) -> Drained
     ensures { result ≡ nothing_of numbers }
 {
-    let none = no_head();
     Drained {
         numbers,
         count: 0,
-        heads: [none; 3],
+        heads: [no_head(); 3],
     }
 }
 
-// Sends up to three frames, once a frame's bits are pending.
-fn three<'a>(
-    bits: &'a [u8; MOST_HELD],
-    reliabilities: &'a [u8; MOST_HELD],
+// Sends up to three frames, while one is ready. It stays a call: written into the loop of a feed it makes room for its answer at every push.
+#[inline(never)]
+fn while_ready(
+    bits: &[u8; MOST_HELD],
+    reliabilities: &[u8; MOST_HELD],
     c: Numbers,
     room: &mut [u8],
 ) -> Drained
@@ -241,34 +163,24 @@ fn three<'a>(
     requires fact_4 { (c.figures.locked ≡ false → c.pending ≤ search_bits - 1) }
     ensures { DrainedBy bits.now reliabilities.now room.old room.new 0 3 (drain 3 (view_of bits.now reliabilities.now c)) result.numbers result.count result.heads }
 {
-    let a = look(bits, c);
-    if a.ready {
-        let f = frame(bits, reliabilities, c, &mut *room, 0, a.placed);
-        let c1 = f.numbers;
-        let h1 = f.head;
-        let b = look(bits, c1);
-        if b.ready {
-            let g = frame(bits, reliabilities, c1, &mut *room, SLOT_SIZE, b.placed);
-            let c2 = g.numbers;
-            let h2 = g.head;
-            let d = look(bits, c2);
-            if d.ready {
-                let h = frame(bits, reliabilities, c2, &mut *room, THIRD_SLOT, d.placed);
-                let c3 = h.numbers;
-                let h3 = h.head;
-                return three_out(c3, h1, h2, h3);
-            }
-            return two_out(c2, h1, h2);
-        }
-        return one_out(c1, h1);
+    let mut drained = nothing(c);
+    for slot in 0..3 {
+        let Some(placed) = look(bits, drained.numbers) else {
+            return drained;
+        };
+        let to = SLOT_SIZE * slot;
+        let framed = frame(bits, reliabilities, drained.numbers, &mut *room, to, placed);
+        drained.numbers = framed.numbers;
+        drained.heads[slot] = framed.head;
+        drained.count += 1;
     }
-    nothing(c)
+    drained
 }
 
 // Sends up to three frames, while one is ready. Most pushes end before a frame could be.
-pub fn drain<'a>(
-    bits: &'a [u8; MOST_HELD],
-    reliabilities: &'a [u8; MOST_HELD],
+pub fn drain(
+    bits: &[u8; MOST_HELD],
+    reliabilities: &[u8; MOST_HELD],
     c: Numbers,
     room: &mut [u8],
 ) -> Drained
@@ -278,11 +190,9 @@ pub fn drain<'a>(
     requires fact_4 { (c.figures.locked ≡ false → c.pending ≤ search_bits - 1) }
     ensures { DrainedBy bits.now reliabilities.now room.old room.new 0 3 (drain 3 (view_of bits.now reliabilities.now c)) result.numbers result.count result.heads }
 {
-    if c.figures.locked {
-        if IN_PLACE_BITS <= c.pending {
-            return three(bits, reliabilities, c, room);
-        }
-        return nothing(c);
+    if c.figures.locked && IN_PLACE_BITS <= c.pending {
+        while_ready(bits, reliabilities, c, room)
+    } else {
+        nothing(c)
     }
-    nothing(c)
 }

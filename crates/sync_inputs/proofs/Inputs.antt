@@ -1,17 +1,15 @@
 -- The pushes that a feed has to make, by index: what is left of them after some, and how many there are.
 -- Assumes nothing.
-use mathlib.Core.Path.{◌≡◌, refl, sym, ap, ◌∙◌, subst}
+use mathlib.Core.Path.{◌≡◌, refl, sym, ap, ◌∙◌}
 use mathlib.Core.List.{List, [], ◌∷◌}
-use mathlib.Core.Bool.{true, true≢false}
+use mathlib.Core.Bool.{true}
 use Prim.Native.Nat.{ℕ, zero, suc, ◌+◌, ◌-◌, ◌*◌, ◌/◌, ◌≤◌, ◌<◌, min}
 use native.Mathlib.Omega.{arith}
 use lib.ListN.{length, get_or, take, drop, length-take, length-drop}
 use lib.Seq.{drop-drop}
+use Rattle.std.specs.Prelude.{Option, Some, None}
 use Rattle.sync_inputs.specs.declared.Given.{Given}
-use Rattle.sync_inputs.specs.declared.Source.{Source}
-use Rattle.sync_inputs.specs.declared.Source.TheVariants.{Hard, Soft, Packed, Stretch}
-use Rattle.sync_inputs.specs.Inputs.{hardly, softly, unpacked, inputs_of, none_given, GivenBy}
-use Rattle.sync_inputs.specs.Inputs.{hard_given, soft_given}
+use Rattle.sync_inputs.specs.Inputs.{hardly, softly, unpacked, GivenBy, input_of}
 use Rattle.sync_rules.specs.State.{Input, hard}
 
 pub length_hardly : (ds : List ℕ) → length (hardly ds) ≡ length ds
@@ -90,20 +88,6 @@ packed_next bs start used i k e h l =
 pub length_packed : (bs : List ℕ) (start : ℕ) → length (hardly (drop start (unpacked bs))) ≡ 4 * length bs - start
 length_packed bs start = length_hardly (drop start (unpacked bs)) ∙ length-drop start (unpacked bs) ∙ ap (λ (n : ℕ). n - start) (length_unpacked bs)
 
--- ---- a push of a source
-pub one_left : (xs : List Input) (n : ℕ) (g : Given) → GivenBy xs n g → g.more ≡ true → n < length xs
-one_left xs n g h t = omega (arith, ap length (h.next t), length-drop n xs)
-
-module _ (xs : List Input) (n : ℕ) (g : Given) where
-  pub gives_hard : (d : ℕ) → g ≡ hard_given d → drop n xs ≡ hard d ∷ drop (suc n) xs → GivenBy xs n g
-  gives_hard d e h = subst (λ (z : Given). GivenBy xs n z) (sym e) (record { next = λ w. h; ended = λ w. absurd (true≢false w) })
-
-  pub gives_soft : (d a b : ℕ) → g ≡ soft_given d a b → drop n xs ≡ record { dibit = d; of_first = a; of_second = b; soft = true } ∷ drop (suc n) xs → GivenBy xs n g
-  gives_soft d a b e h = subst (λ (z : Given). GivenBy xs n z) (sym e) (record { next = λ w. h; ended = λ w. absurd (true≢false w) })
-
-  pub gives_none : g ≡ none_given → length xs ≤ n → GivenBy xs n g
-  gives_none e h = subst (λ (z : Given). GivenBy xs n z) (sym e) (record { next = λ w. absurd (true≢false (sym w)); ended = λ w. h })
-
 -- push n of the first k pushes
 pub take_hardly : (ds : List ℕ) (k : ℕ) → hardly (take k ds) ≡ take k (hardly ds)
 take_hardly ds zero = refl
@@ -117,27 +101,9 @@ next_of_first [] (suc k) (suc n) x h e = e
 next_of_first (y ∷ xs) (suc k) zero x h e = ap (take (suc k)) e
 next_of_first (y ∷ xs) (suc k) (suc n) x h e = next_of_first xs k n x (omega arith) e
 
-pub first_given : (ds : List ℕ) (k n : ℕ) (g : Given) → n < k → GivenBy (hardly ds) n g → GivenBy (hardly (take k ds)) n g
-first_given ds k n g h b =
-    subst (λ (xs : List Input). GivenBy xs n g) (sym (take_hardly ds k))
-    (record { next = λ t. next_of_first (hardly ds) k n _ h (b.next t); ended = λ w. omega (arith, b.ended w, length-take k (hardly ds)) })
+pub first_given : (ds : List ℕ) (k n : ℕ) (g : Option Given) → n < k → GivenBy (hardly ds) n g → GivenBy (hardly (take k ds)) n g
+first_given ds k n None h b = omega (arith, b, length_hardly ds, length_hardly (take k ds), length-take k ds)
+first_given ds k n (Some x) h b = rw (take_hardly ds k) (next_of_first (hardly ds) k n (input_of x) h b)
 
 pub none_behind : (ds : List ℕ) (k n : ℕ) → k ≤ n → length (hardly (take k ds)) ≤ n
 none_behind ds k n h = omega (arith, length_hardly (take k ds), length-take k ds)
-
-module _ (s : Source) (dibits reliable : List ℕ) (start n : ℕ) (g : Given) where
-  pub of_hard : s ≡ Hard → GivenBy (hardly dibits) n g → GivenBy (inputs_of s dibits reliable start) n g
-  unfolding inputs_of
-  of_hard e h = subst (λ (z : Source). GivenBy (inputs_of z dibits reliable start) n g) (sym e) h
-
-  pub of_soft : s ≡ Soft → GivenBy (softly dibits reliable) n g → GivenBy (inputs_of s dibits reliable start) n g
-  unfolding inputs_of
-  of_soft e h = subst (λ (z : Source). GivenBy (inputs_of z dibits reliable start) n g) (sym e) h
-
-  pub of_packed : s ≡ Packed → GivenBy (hardly (drop start (unpacked dibits))) n g → GivenBy (inputs_of s dibits reliable start) n g
-  unfolding inputs_of
-  of_packed e h = subst (λ (z : Source). GivenBy (inputs_of z dibits reliable start) n g) (sym e) h
-
-  pub of_stretch : (most : ℕ) → s ≡ Stretch most → GivenBy (hardly (take most (drop start (unpacked dibits)))) n g → GivenBy (inputs_of s dibits reliable start) n g
-  unfolding inputs_of
-  of_stretch most e h = subst (λ (z : Source). GivenBy (inputs_of z dibits reliable start) n g) (sym e) h

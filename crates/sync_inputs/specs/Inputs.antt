@@ -1,6 +1,6 @@
 -- What is pushed: by one push, and by a feed, push by push.
 -- Assumes nothing.
-use Rattle.std.specs.Prelude.{◌≡◌, List, [], ◌∷◌, map, true, false, ℕ, suc, ◌/◌, ◌%◌, ◌≤◌, length, take, drop}
+use Rattle.std.specs.Prelude.{◌≡◌, List, [], ◌∷◌, map, true, false, ℕ, suc, ◌/◌, ◌%◌, ◌≤◌, length, take, drop, Option, MatchOption}
 use Rattle.sync_rules.specs.State.{Input, hard}
 use Rattle.sync_inputs.specs.declared.Given.{Given}
 use Rattle.sync_inputs.specs.declared.Source.{Source}
@@ -11,10 +11,10 @@ abbrev pub input_of : Given → Input
 input_of g = record { dibit = g.dibit; of_first = g.first; of_second = g.second; soft = g.soft }
 
 abbrev pub hard_given : ℕ → Given
-hard_given d = record { more = true; dibit = d; first = 255; second = 255; soft = false }
+hard_given d = record { dibit = d; first = 255; second = 255; soft = false }
 
 abbrev pub soft_given : ℕ → ℕ → ℕ → Given
-soft_given d a b = record { more = true; dibit = d; first = a; second = b; soft = true }
+soft_given d a b = record { dibit = d; first = a; second = b; soft = true }
 
 -- ---- the pushes that a feed has to make
 
@@ -34,18 +34,14 @@ unfoldable pub unpacked : List ℕ → List ℕ
 unpacked [] = []
 unpacked (b ∷ bs) = b / 64 % 4 ∷ b / 16 % 4 ∷ b / 4 % 4 ∷ b % 4 ∷ unpacked bs
 
--- those of a source; `reliable` is read of a soft one, `start` of packed bytes
-unfoldable pub inputs_of : Source → List ℕ → List ℕ → ℕ → List Input
+-- those of a source
+unfoldable pub inputs_of : Source → List Input
 unfolding softly unpacked
-inputs_of Hard dibits reliable start = hardly dibits
-inputs_of Soft dibits reliable start = softly dibits reliable
-inputs_of Packed dibits reliable start = hardly (drop start (unpacked dibits))
-inputs_of (Stretch most) dibits reliable start = hardly (take most (drop start (unpacked dibits)))
-
-abbrev pub none_given : Given
-none_given = record { more = false; dibit = 0; first = 0; second = 0; soft = false }
+inputs_of (Hard dibits) = hardly dibits.now
+inputs_of (Soft dibits reliable) = softly dibits.now reliable.now
+inputs_of (Packed bytes start) = hardly (drop start (unpacked bytes.now))
+inputs_of (Stretch bytes start most) = hardly (take most (drop start (unpacked bytes.now)))
 
 -- g is push n of xs, or there is none
-pub record GivenBy (xs : List Input) (n : ℕ) (g : Given) : Type 0 where
-  pub next : g.more ≡ true → drop n xs ≡ input_of g ∷ drop (suc n) xs
-  pub ended : g.more ≡ false → length xs ≤ n
+abbrev pub GivenBy : List Input → ℕ → Option Given → Type 0
+GivenBy xs n g = MatchOption g (length xs ≤ n) (λ x. drop n xs ≡ input_of x ∷ drop (suc n) xs)

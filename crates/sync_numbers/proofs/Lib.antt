@@ -1,4 +1,3 @@
 pub mod Pendings
 pub mod Slipping
 pub mod Sents
-pub mod Moved

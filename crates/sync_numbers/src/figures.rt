@@ -12,21 +12,11 @@ pub fn slips_counted(figures: StreamFigures, later: u64, earlier: u64) -> Stream
     requires { (figures.later + later < 2 ^ 64) × (figures.earlier + earlier < 2 ^ 64) }
     ensures { result ≡ slips_counted later earlier figures }
 {
-    let mut f = figures;
-    f.later = figures.later + later;
-    f.earlier = figures.earlier + earlier;
-    f
-}
-
-// Gives 1 if a lies beyond b, else 0.
-fn beyond(a: usize, b: usize) -> u64
-    ensures value { result ≡ cond (ltb b a) 1 0 }
-    ensures few { result ≤ 1 }
-{
-    if b < a {
-        return 1;
+    StreamFigures {
+        later: figures.later + later,
+        earlier: figures.earlier + earlier,
+        ..figures
     }
-    0
 }
 
 // Counts the shift of a segment that starts at a place and is due at another.
@@ -36,9 +26,7 @@ pub fn shift_counted(figures: StreamFigures, at: usize, due: usize) -> StreamFig
     ensures value { result ≡ shift_counted at due figures }
     ensures few { (result.later ≤ figures.later + 1) × (result.earlier ≤ figures.earlier + 1) }
 {
-    let later = beyond(at, due);
-    let earlier = beyond(due, at);
-    slips_counted(figures, later, earlier)
+    slips_counted(figures, u64::from(due < at), u64::from(at < due))
 }
 
 // Counts a frame, matched or not: lock ends with the third in a row that is not matched.
@@ -50,16 +38,13 @@ pub fn frame_sent(figures: StreamFigures, matched: bool) -> StreamFigures
     requires fact_5 { figures.locked ≡ true }
     ensures { result ≡ frame_sent matched figures }
 {
-    let mut f = figures;
-    f.clock = figures.clock + FRAME_BITS;
-    f.frames = figures.frames + 1;
-    if matched {
-        f.failures = 0;
-        f.synchronised = figures.synchronised + 1;
-        return f;
+    let failures = if matched { 0 } else { figures.failures + 1 };
+    StreamFigures {
+        clock: figures.clock + FRAME_BITS,
+        frames: figures.frames + 1,
+        synchronised: figures.synchronised + u64::from(matched),
+        failures,
+        locked: failures < 3,
+        ..figures
     }
-    let failures = figures.failures + 1;
-    f.failures = failures;
-    f.locked = failures < 3;
-    f
 }

@@ -13,9 +13,10 @@ fn away(at: usize, base: usize) -> i8
     ensures { result ≡ sub_ℕ at base }
 {
     if at < base {
-        return -((base - at) as i8);
+        -((base - at) as i8)
+    } else {
+        (at - base) as i8
     }
-    (at - base) as i8
 }
 
 // Tells by how many bits the front moved, by the slips counted before and after.
@@ -23,12 +24,12 @@ fn front_moved(c: Numbers, d: Numbers) -> i8
     ensures { result ≡ front_seen c d }
 {
     if c.figures.later < d.figures.later {
-        return 2;
+        2
+    } else if c.figures.earlier < d.figures.earlier {
+        -2
+    } else {
+        0
     }
-    if c.figures.earlier < d.figures.earlier {
-        return -2;
-    }
-    0
 }
 
 // Gives the moves of a frame whose front was found between the numbers c and d, and whose second and third segment start p and q behind it.
@@ -37,12 +38,9 @@ pub fn moves_of(c: Numbers, d: Numbers, p: usize, q: usize) -> Moves
     requires fact_2 { (252 ≤ q) × (q ≤ 260) }
     ensures { result ≡ moves_seen c d p q }
 {
-    let front = front_moved(c, d);
-    let second = away(p, 128);
-    let third = away(q, 256);
     Moves {
-        front,
-        second,
-        third,
+        front: front_moved(c, d),
+        second: away(p, 128),
+        third: away(q, 256),
     }
 }

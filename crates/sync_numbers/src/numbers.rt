@@ -9,7 +9,9 @@ use super::figures::{frame_sent, shift_counted, slips_counted};
 use sync_rules::{MOST_HELD, StreamFigures};
 
 // Everything but the rings: where in them the held bits begin, how many of these are restorable and how many pending, and the figures.
-#[derive(Clone, Copy)]
+// kept: `Sound`, `Low`, `Steady` and `Few` are clauses and no ghost fields, since these hold at different moments of a push, and by what may not change: `enough`,
+// `quiet_of` and `moves_of` ask for none of them.
+#[derive(Clone, Copy, Default)]
 pub struct Numbers {
     pub first: usize,
     pub restorable: usize,
@@ -23,16 +25,13 @@ pub fn dropped(c: Numbers, k: usize) -> Numbers
     requires fact_2 { k ≤ c.pending }
     ensures { Dropped c k result }
 {
-    let mut d = c;
     let passed = c.restorable + k;
-    d.pending = c.pending - k;
-    if 2 < passed {
-        d.first = (c.first + (passed - 2)) % MOST_HELD;
-        d.restorable = 2;
-        return d;
+    Numbers {
+        first: (c.first + passed.saturating_sub(2)) % MOST_HELD,
+        restorable: passed.min(2),
+        pending: c.pending - k,
+        ..c
     }
-    d.restorable = passed;
-    d
 }
 
 // Makes the restorable bits pending again.
@@ -41,10 +40,11 @@ pub fn restored(c: Numbers) -> Numbers
     requires fact_2 { Low c }
     ensures { Restored c result }
 {
-    let mut d = c;
-    d.pending = c.pending + c.restorable;
-    d.restorable = 0;
-    d
+    Numbers {
+        restorable: 0,
+        pending: c.pending + c.restorable,
+        ..c
+    }
 }
 
 // Counts slips that were followed.
@@ -53,11 +53,10 @@ pub fn slipped(c: Numbers, later: u64, earlier: u64) -> Numbers
     requires fact_2 { c.figures.earlier + earlier < 2 ^ 64 }
     ensures { result ≡ numbers_with (slips_counted later earlier c.figures) c }
 {
-    let figures = c.figures;
-    let counted = slips_counted(figures, later, earlier);
-    let mut d = c;
-    d.figures = counted;
-    d
+    Numbers {
+        figures: slips_counted(c.figures, later, earlier),
+        ..c
+    }
 }
 
 // Counts the shifts of a frame's second and third segment, which start p and q behind its front.
@@ -67,12 +66,11 @@ pub fn shifted(c: Numbers, p: usize, q: usize) -> Numbers
     requires fact_3 { p < 1000 }
     ensures { result ≡ numbers_with (shift_counted q (p + 128) (shift_counted p 128 c.figures)) c }
 {
-    let figures = c.figures;
-    let second = shift_counted(figures, p, 128);
-    let third = shift_counted(second, q, p + 128);
-    let mut d = c;
-    d.figures = third;
-    d
+    let second = shift_counted(c.figures, p, 128);
+    Numbers {
+        figures: shift_counted(second, q, p + 128),
+        ..c
+    }
 }
 
 // Gives the numbers that a frame leaves whose third segment starts q behind its front: its bits are passed, and it is counted.
@@ -84,9 +82,8 @@ pub fn sent(c: Numbers, q: usize, matched: bool) -> Numbers
     requires fact_5 { c.figures.locked ≡ true }
     ensures { Left c q matched result }
 {
-    let mut e = dropped(c, q + 128);
-    let figures = c.figures;
-    let counted = frame_sent(figures, matched);
-    e.figures = counted;
-    e
+    Numbers {
+        figures: frame_sent(c.figures, matched),
+        ..dropped(c, q + 128)
+    }
 }

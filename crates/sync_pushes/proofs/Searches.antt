@@ -5,7 +5,8 @@ use mathlib.Core.List.{List}
 use mathlib.Core.Bool.{Bool, true, false, true≢false, cond}
 use Prim.Native.Nat.{ℕ, ◌+◌, ◌-◌, ◌≤◌}
 use native.Mathlib.Omega.{arith}
-use borrow.Author.Tests.{ltb-false}
+use borrow.Author.Tests.{ltb-false, lt-ltb, le-ltb}
+use Rattle.std.specs.Prelude.{Option, Some, None, IfSome, unwrap_or, is_some, ◌<◌}
 use lib.Dec.{ltb}
 use lib.ListN.{length}
 use Rattle.sync_numbers.specs.declared.numbers.Numbers.{Numbers}
@@ -68,3 +69,12 @@ module _ (xs : List ℕ) (c : Numbers) (s : Sound c) (l : Low c) (shut : c.figur
   -- the figures counted by whether a place was found
   pub searched : (f : StreamFigures) → f ≡ bits_passed p (ltb p (c.pending - 1151)) c.figures → Searched xs c (numbers_with f d)
   searched f e = subst (λ (g : StreamFigures). Searched xs c (numbers_with g d)) (sym e) at
+
+-- what a search found: a place below n, or none
+pub passed_few : (o : Option ℕ) (n : ℕ) → IfSome o (λ p. p < n) → unwrap_or o n ≤ n
+passed_few None n h = omega arith
+passed_few (Some p) n h = omega arith
+
+pub found_below : (o : Option ℕ) (n : ℕ) → IfSome o (λ p. p < n) → is_some o ≡ ltb (unwrap_or o n) n
+found_below None n h = sym (le-ltb n n (omega arith))
+found_below (Some p) n h = sym (lt-ltb p n h)

@@ -4,7 +4,7 @@
 
 #![tactic(auto)]
 
-ghost use Rattle.std.specs.Prelude.{◌≡◌, true, false, List, ℕ, ◌+◌, ◌-◌, ◌*◌, ◌/◌, ◌%◌, ◌<◌, ◌≤◌, length, set};
+ghost use Rattle.std.specs.Prelude.{◌≡◌, true, false, List, ℕ, ◌+◌, ◌-◌, ◌*◌, ◌/◌, ◌%◌, ◌<◌, ◌≤◌, length, set, unwrap_or, IfSome};
 ghost use Rattle.sync_rules.specs.Sizes.{search_bits, most_held, most_dibits};
 ghost use Rattle.bits.specs.Bit.{Bits};
 ghost use Rattle.sync_rules.specs.Ring.{ring};
@@ -32,41 +32,27 @@ pub fn appended(c: Numbers, soft: bool) -> Numbers
     requires fact_3 { c.figures.taken < most_dibits }
     ensures { result ≡ appended_to c soft }
 {
-    let mut d = c;
-    d.pending = c.pending + 2;
-    let figures = c.figures;
-    let counted = dibit_taken(figures, soft);
-    d.figures = counted;
-    d
+    Numbers {
+        pending: c.pending + 2,
+        figures: dibit_taken(c.figures, soft),
+        ..c
+    }
 }
 
-// Finds the first of `tries` places from `base` on where three frames show themselves, or gives `tries`.
-fn find(bits: &[u8; MOST_HELD], base: usize, tries: usize) -> usize
+// Finds the first of `tries` places from `base` on where three frames show themselves.
+fn find(bits: &[u8; MOST_HELD], base: usize, tries: usize) -> Option<usize>
     requires fact_1 { Bits bits.now }
     requires fact_2 { base < 2000 }
     requires fact_3 { tries < 2000 }
-    ensures by_index { (n : ℕ) → ((p : ℕ) → p < tries → p + search_bits ≤ n) → result ≡ first_of (locks_at (ring bits.now base n)) 0 tries }
-    ensures few { result ≤ tries }
+    ensures by_index { (n : ℕ) → ((p : ℕ) → p < tries → p + search_bits ≤ n) → unwrap_or result tries ≡ first_of (locks_at (ring bits.now base n)) 0 tries }
+    ensures few { IfSome result (λ p. p < tries) }
 {
-    let mut pos: usize = 0;
-    while pos < tries {
-        let found = three_frames(bits, base + pos);
-        if found {
-            return pos;
+    for place in 0..tries {
+        if three_frames(bits, base + place) {
+            return Some(place);
         }
-        pos += 1;
     }
-    pos
-}
-
-// Tells from how many places on 1,152 bits are pending.
-fn tries_of(pending: usize) -> usize
-    ensures { result ≡ pending - (search_bits - 1) }
-{
-    if pending < SEARCH_BITS {
-        return 0;
-    }
-    pending - SEARCHING_IDLE
+    None
 }
 
 // Searches where there is no lock: passes the bits up to the first place where three frames show themselves.
@@ -80,14 +66,13 @@ pub fn search(bits: &[u8; MOST_HELD], c: Numbers) -> Numbers
     if c.figures.locked {
         return c;
     }
-    let base = c.first + c.restorable;
-    let tries = tries_of(c.pending);
-    let pos = find(bits, base, tries);
-    let mut d = dropped(c, pos);
-    let figures = c.figures;
-    let counted = bits_passed(figures, pos as u64, pos < tries);
-    d.figures = counted;
-    d
+    let tries = c.pending.saturating_sub(SEARCHING_IDLE);
+    let found = find(bits, c.first + c.restorable, tries);
+    let passed = found.unwrap_or(tries);
+    Numbers {
+        figures: bits_passed(c.figures, passed as u64, found.is_some()),
+        ..dropped(c, passed)
+    }
 }
 
 // Gives a place of the ring, round its end.
@@ -96,9 +81,10 @@ fn in_ring(place: usize) -> usize
     ensures { result ≡ place % most_held }
 {
     if place < MOST_HELD {
-        return place;
+        place
+    } else {
+        place - MOST_HELD
     }
-    place - MOST_HELD
 }
 
 // Puts two values behind the held ones, which end before place `end`.
@@ -136,28 +122,22 @@ pub fn brought(
 pub fn enough(k: Numbers) -> bool
     ensures { result ≡ false → Waiting k }
 {
-    if k.figures.locked {
-        return IN_PLACE_BITS <= k.pending;
-    }
-    SEARCH_BITS <= k.pending
-}
-
-// Gives half of what is left of `most`, rounded down.
-fn half_left(most: usize, pending: usize) -> usize
-    ensures { result ≡ (most - pending) / 2 }
-{
-    if most < pending {
-        return 0;
-    }
-    (most - pending) / 2
+    let wanted = if k.figures.locked {
+        IN_PLACE_BITS
+    } else {
+        SEARCH_BITS
+    };
+    wanted <= k.pending
 }
 
 // Tells how many pushes can follow of which none searches or sends, whatever stands in the rings.
 pub fn quiet_of(k: Numbers) -> usize
     ensures { (bits reliabilities : List ℕ) → result ≡ quiet (view_of bits reliabilities k) }
 {
-    if k.figures.locked {
-        return half_left(LOCKED_IDLE, k.pending);
-    }
-    half_left(SEARCHING_IDLE, k.pending)
+    let idle = if k.figures.locked {
+        LOCKED_IDLE
+    } else {
+        SEARCHING_IDLE
+    };
+    idle.saturating_sub(k.pending) / 2
 }

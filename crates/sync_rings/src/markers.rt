@@ -17,7 +17,8 @@ pub struct MarkerSeen {
     pub errors: u32,
 }
 
-// Reads the marker of a segment at place `from`.
+// Reads the marker of a segment at place `from`. It stays a call: a search seldom comes so far, and its loop is to stay small.
+#[inline(never)]
 pub fn marker(bits: &[u8; MOST_HELD], from: usize, segment: usize) -> MarkerSeen
     requires fact_1 { Bits bits.now }
     requires fact_2 { segment < 3 }
@@ -26,8 +27,7 @@ pub fn marker(bits: &[u8; MOST_HELD], from: usize, segment: usize) -> MarkerSeen
     ensures few { result.errors ≤ 16 }
 {
     let value = spelled(bits, from, 16);
-    let markers = coding_markers::markers();
-    let expected = markers[segment];
+    let expected = coding_markers::markers()[segment];
     MarkerSeen {
         matched: value % 16384 == expected % 16384,
         errors: u16::count_ones(value ^ expected),
@@ -42,83 +42,54 @@ pub fn matches_at(bits: &[u8; MOST_HELD], from: usize, segment: usize) -> bool
     ensures { Seen bits.now from 16 result (λ xs p. matches xs p segment) }
 {
     let head = spelled(bits, from + 2, 4);
-    let markers = coding_markers::markers();
-    let expected = markers[segment];
-    if head != expected / 1024 % 16 {
-        return false;
-    }
-    let m = marker(bits, from, segment);
-    m.matched
+    let expected = coding_markers::markers()[segment];
+    head == expected / 1024 % 16 && marker(bits, from, segment).matched
 }
 
 // Tells whether at least two of three hold.
+#[tactic(auto, unfolding(sync_rules::specs::Matching::two_of))]
 pub fn two_of(a: bool, b: bool, c: bool) -> bool
     ensures { result ≡ two_of a b c }
 {
-    if a {
-        if b {
-            return true;
-        }
-        return c;
-    }
-    if b {
-        return c;
-    }
-    false
+    if a == b { a } else { c }
 }
 
-// Tells whether the frame at place `from` shows at least two of its three markers.
+// Tells whether the frame at place `from` shows at least two of its three markers: the third is read where the others differ. It stays a call: written into
+// the loop of a search it takes nearly twice as many instructions there.
+#[inline(never)]
+#[tactic(auto, unfolding(sync_rules::specs::Matching::shows, sync_rules::specs::Matching::two_of))]
 pub(crate) fn two_of_three(bits: &[u8; MOST_HELD], from: usize) -> bool
     requires fact_1 { Bits bits.now }
     requires fact_2 { from < 10000 }
     ensures { Seen bits.now from 272 result (λ xs p. shows xs p) }
 {
-    let a = matches_at(bits, from, 0);
-    let b = matches_at(bits, from + 128, 1);
-    if a {
-        if b {
-            return true;
-        }
-        return matches_at(bits, from + 256, 2);
+    let first = matches_at(bits, from, 0);
+    let second = matches_at(bits, from + 128, 1);
+    if first == second {
+        first
+    } else {
+        matches_at(bits, from + 256, 2)
     }
-    if b {
-        return matches_at(bits, from + 256, 2);
-    }
-    false
 }
 
 // Tells whether three frames 384 bits apart do.
+#[tactic(auto, unfolding(sync_rules::specs::Matching::locks_at))]
 pub fn three_frames(bits: &[u8; MOST_HELD], from: usize) -> bool
     requires fact_1 { Bits bits.now }
     requires fact_2 { from < 4000 }
     ensures { Seen bits.now from search_bits result (λ xs p. locks_at xs p) }
 {
-    let a = two_of_three(bits, from);
-    if a {
-        let b = two_of_three(bits, from + 384);
-        if b {
-            return two_of_three(bits, from + 768);
-        }
-        return false;
-    }
-    false
+    two_of_three(bits, from) && two_of_three(bits, from + 384) && two_of_three(bits, from + 768)
 }
 
 // Tells whether the frame at place `from` shows all three.
+#[tactic(auto, unfolding(sync_rules::specs::Matching::in_place))]
 pub fn in_place(bits: &[u8; MOST_HELD], from: usize) -> bool
     requires fact_1 { Bits bits.now }
     requires fact_2 { from < 4000 }
     ensures { Seen bits.now from 272 result (λ xs p. in_place xs p) }
 {
-    let a = matches_at(bits, from, 0);
-    if a {
-        let b = matches_at(bits, from + 128, 1);
-        if b {
-            return matches_at(bits, from + 256, 2);
-        }
-        return false;
-    }
-    false
+    matches_at(bits, from, 0) && matches_at(bits, from + 128, 1) && matches_at(bits, from + 256, 2)
 }
 
 // Finds where a segment starts, behind the place `base`: at `at`, a symbol later, or a symbol earlier.
@@ -131,17 +102,13 @@ pub fn segment_at(bits: &[u8; MOST_HELD], base: usize, at: usize, segment: usize
     ensures by_index { (n : ℕ) → at + 18 ≤ n → result ≡ moved (move_to (ring bits.now base n) at segment) at }
     ensures near { (result ≤ at + 2) × (at ≤ result + 2) }
 {
-    let a = matches_at(bits, base + at, segment);
-    if a {
-        return at;
+    if matches_at(bits, base + at, segment) {
+        at
+    } else if matches_at(bits, base + at + 2, segment) {
+        at + 2
+    } else if matches_at(bits, base + (at - 2), segment) {
+        at - 2
+    } else {
+        at
     }
-    let b = matches_at(bits, base + at + 2, segment);
-    if b {
-        return at + 2;
-    }
-    let c = matches_at(bits, base + (at - 2), segment);
-    if c {
-        return at - 2;
-    }
-    at
 }

@@ -19,24 +19,21 @@ fn write_bits(room: &mut [u8], to: usize, bits: &[u8; MOST_HELD], from: usize)
     requires fact_3 { from < 10000 }
     ensures { room.new ≡ sets room.old to (bytes_of 16 (ring bits.now from 128)) }
 {
-    let mut i: usize = 0;
-    while i < 16 {
-        let v = spelled(bits, from + 8 * i, 8);
-        room[to + i] = (v % 256) as u8;
-        i += 1;
+    for i in 0..16 {
+        let byte = spelled(bits, from + 8 * i, 8);
+        room[to + i] = (byte % 256) as u8;
     }
 }
 
+// kept: beside `write_bits`, since one function with a closure for the element is no plainer: the two promise lists of two meanings, in steps of two sizes.
 // Writes 128 reliabilities.
 fn write_reliabilities(room: &mut [u8], to: usize, reliabilities: &[u8; MOST_HELD], from: usize)
     requires fact_1 { to + 128 ≤ length room.old }
     requires fact_2 { from < 10000 }
     ensures { room.new ≡ sets room.old to (ring reliabilities.now from 128) }
 {
-    let mut i: usize = 0;
-    while i < 128 {
+    for i in 0..128 {
         room[to + i] = reliabilities[(from + i) % MOST_HELD];
-        i += 1;
     }
 }
 

@@ -19,7 +19,7 @@ pub use sizes::{
 
 // How a frame slipped, in bits: how far its front was moved to follow a slip (-2, 0 or 2), and how far its second and third segment lie off their places
 // behind it (-2, 0 or 2; -4 to 4, the second's shift included). All zero for a frame in place.
-#[derive(Clone, Copy)]
+#[derive(Clone, Copy, Default)]
 pub struct Moves {
     pub front: i8,
     pub second: i8,
@@ -28,7 +28,7 @@ pub struct Moves {
 
 // What a synchroniser says of a frame: the offset of its first bit, how many of its 48 marker bits are wrong, whether two of its markers match, and its moves.
 // In this order a head is 16 bytes; with the yes before the errors it is 24, and every push and feed pays for it.
-#[derive(Clone, Copy)]
+#[derive(Clone, Copy, Default)]
 pub struct Head {
     pub offset: u64,
     pub errors: u32,
@@ -37,7 +37,7 @@ pub struct Head {
 }
 
 // What a synchroniser has counted, and whether it holds a lock: all of its state but the bits that it holds.
-#[derive(Clone, Copy)]
+#[derive(Clone, Copy, Default)]
 pub struct StreamFigures {
     pub taken: u64, // dibits taken
     pub clock: u64, // bits passed in searches, and 384 for each frame
@@ -54,24 +54,14 @@ pub struct StreamFigures {
 pub fn no_moves() -> Moves
     ensures { result ≡ no_moves }
 {
-    Moves {
-        front: 0,
-        second: 0,
-        third: 0,
-    }
+    Moves::default()
 }
 
 // Gives the head of no frame: zeros.
 pub fn no_head() -> Head
     ensures { result ≡ no_head }
 {
-    let moves = no_moves();
-    Head {
-        offset: 0,
-        errors: 0,
-        matched: false,
-        moves,
-    }
+    Head::default()
 }
 
 // States demand 3, over any list of pushes from a start.

@@ -10,29 +10,20 @@ ghost use Rattle.sync_rules.specs.Matching.{spell};
 
 use sync_rules::MOST_HELD;
 
-// Widens a byte.
-fn wide(b: u8) -> u16
-    ensures { result ≡ b }
-{
-    b as u16
-}
-
 // Reads the number that `count` bits from place `from` on spell, highest first.
 pub fn spelled(bits: &[u8; MOST_HELD], from: usize, count: usize) -> u16
     requires fact_1 { Bits bits.now }
     requires fact_2 { count ≤ 16 }
     ensures { result ≡ spell 0 (ring bits.now from count) }
 {
-    let mut value: u16 = 0;
-    let mut at: usize = from % MOST_HELD;
-    let mut i: usize = 0;
-    while i < count {
-        value = value * 2 + wide(bits[at]);
+    let mut value = 0;
+    let mut at = from % MOST_HELD;
+    for _i in 0..count {
+        value = value * 2 + u16::from(bits[at]);
         at += 1;
         if at == MOST_HELD {
             at = 0;
         }
-        i += 1;
     }
     value
 }

@@ -1,5 +1,6 @@
 -- The answer to a push, and what a push does that is refused or taken.
 -- Assumes nothing.
+use Rattle.std.proofs.Common.{Result, Ok, Err}
 use mathlib.Core.Path.{◌≡◌, refl, sym, ap, ◌∙◌, subst}
 use mathlib.Core.List.{List}
 use mathlib.Core.Bool.{Bool, true, false}
@@ -11,8 +12,6 @@ use lib.ListN.{length}
 use Rattle.bits.proofs.Conds.{cond_lt, cond_ge, cond_le}
 use Rattle.sync_numbers.specs.declared.numbers.Numbers.{Numbers}
 use Rattle.sync_frames.specs.declared.frames.Drained.{Drained}
-use Rattle.sync_inputs.specs.declared.Push.{Push}
-use Rattle.sync_inputs.specs.declared.Push.TheVariants.{Taken, Refused}
 use Rattle.sync_numbers.specs.View.{view_of, Steady, Few, Rings}
 use Rattle.sync_frames.specs.Frames.{DrainedBy, nothing_of}
 use Rattle.sync_pushes.specs.Steps.{Brought}
@@ -22,6 +21,7 @@ use Rattle.sync_rules.specs.State.{State, Input}
 use Rattle.sync_rules.specs.Pushes.{Out, step}
 use Rattle.sync_rules.specs.Room.{laid}
 use Rattle.sync_pushes.proofs.Bringing.{stepped}
+use Rattle.bits.specs.declared.Refusal.{Refusal}
 
 -- what the tests of a push that is taken have shown
 pub record Taking (room dibit taken : ℕ) : Type 0 where
@@ -29,7 +29,7 @@ pub record Taking (room dibit taken : ℕ) : Type 0 where
   pub fits : 1296 ≤ room
   pub early : taken < 2 ^ 40
 
-made_none : (a b : Push) → a ≡ b → takes a ≡ 0 → takes b ≡ 0
+made_none : (a b : Result Unit Refusal) → a ≡ b → takes a ≡ 0 → takes b ≡ 0
 made_none a b e z = sym (ap takes e) ∙ z
 
 module _ (room dibit taken : ℕ) (made : takes (answer_by room dibit taken) ≡ 0 → ⊥) where
@@ -48,25 +48,25 @@ module _ (room dibit taken : ℕ) (made : takes (answer_by room dibit taken) ≡
   early true e = absurd (made (ap takes (cond_ge 3 dibit _ _ (good (ltb 3 dibit) refl) ∙ cond_ge room 1296 _ _ (fits (ltb room 1296) refl) ∙ cond_le (2 ^ 40) taken _ _ (leb-true (2 ^ 40) taken e))))
   early false e = leb-false (2 ^ 40) taken e
 
-pub taking : (room dibit taken : ℕ) (a : Push) → a ≡ answer_by room dibit taken → (takes a ≡ 0 → ⊥) → Taking room dibit taken
+pub taking : (room dibit taken : ℕ) (a : Result Unit Refusal) → a ≡ answer_by room dibit taken → (takes a ≡ 0 → ⊥) → Taking room dibit taken
 taking room dibit taken a e h =
     let m : takes (answer_by room dibit taken) ≡ 0 → ⊥ = λ z. h (made_none (answer_by room dibit taken) a (sym e) z) in
     record { good = good room dibit taken m (ltb 3 dibit) refl; fits = fits room dibit taken m (ltb room 1296) refl; early = early room dibit taken m (leb (2 ^ 40) taken) refl }
 
-pub is_taken : (a : Push) → (takes a ≡ 0 → ⊥) → a ≡ Taken
+pub is_taken : (a : Result Unit Refusal) → (takes a ≡ 0 → ⊥) → a ≡ Ok tt
 unfolding takes
-is_taken Taken h = refl
-is_taken (Refused f) h = absurd (h refl)
+is_taken (Ok u) h = refl
+is_taken (Err f) h = absurd (h refl)
 
 -- a push x into rings lent in place: its answer a, and the frames d
-pub record PushedInto (bits reliabilities bits' reliabilities' room room' : List ℕ) (k : Numbers) (x : Input) (a : Push) (d : Drained) : Type 0 where
+pub record PushedInto (bits reliabilities bits' reliabilities' room room' : List ℕ) (k : Numbers) (x : Input) (a : Result Unit Refusal) (d : Drained) : Type 0 where
   pub answer : a ≡ answer_to (length room) x (view_of bits reliabilities k)
   pub drained : DrainedBy bits' reliabilities' room room' 0 3 (push_of a x (view_of bits reliabilities k)) d.numbers d.count d.heads
   pub rings : Rings bits' reliabilities'
   -- a refused push leaves the rings and the numbers as they were
   pub kept : takes a ≡ 0 → (bits' ≡ bits) × (reliabilities' ≡ reliabilities) × (d.numbers ≡ k)
 
-module _ (bits reliabilities room : List ℕ) (k : Numbers) (x : Input) (a : Push) (e : a ≡ answer_by (length room) x.dibit k.figures.taken) where
+module _ (bits reliabilities room : List ℕ) (k : Numbers) (x : Input) (a : Result Unit Refusal) (e : a ≡ answer_by (length room) x.dibit k.figures.taken) where
   abbrev M : State
   M = view_of bits reliabilities k
 
@@ -74,20 +74,20 @@ module _ (bits reliabilities room : List ℕ) (k : Numbers) (x : Input) (a : Pus
   unfolding answer_to
   answers = e
 
-  unmoved : (b : Push) → takes b ≡ 0 → Steady k → Few k → DrainedBy bits reliabilities room room 0 3 (push_of b x M) k 0 (nothing_of k).heads
+  unmoved : (b : Result Unit Refusal) → takes b ≡ 0 → Steady k → Few k → DrainedBy bits reliabilities room room 0 3 (push_of b x M) k 0 (nothing_of k).heads
   unfolding push_of laid takes
-  unmoved Taken z st fw = absurd (omega arith)
-  unmoved (Refused f) z st fw = record { steady = st; few = fw; next = refl; many = refl; figures = refl; stored = refl }
+  unmoved (Ok u) z st fw = absurd (omega arith)
+  unmoved (Err f) z st fw = record { steady = st; few = fw; next = refl; many = refl; figures = refl; stored = refl }
 
   pub refuses : takes a ≡ 0 → Steady k → Few k → Rings bits reliabilities → (d : Drained) → d ≡ nothing_of k → PushedInto bits reliabilities bits reliabilities room room k x a d
   refuses z st fw rs d ed =
       subst (λ (n : Drained). PushedInto bits reliabilities bits reliabilities room room k x a n) (sym ed)
       (record { answer = answers; drained = unmoved a z st fw; rings = rs; kept = λ w. (refl, refl, refl) })
 
-  by_step : (b : Push) → (takes b ≡ 0 → ⊥) → step x M ≡ push_of b x M
+  by_step : (b : Result Unit Refusal) → (takes b ≡ 0 → ⊥) → step x M ≡ push_of b x M
   unfolding push_of takes
-  by_step Taken h = refl
-  by_step (Refused f) h = absurd (h refl)
+  by_step (Ok u) h = refl
+  by_step (Err f) h = absurd (h refl)
 
   -- its bits are brought, and the search and the frames follow
   pub accepts : (takes a ≡ 0 → ⊥) → (bits' reliabilities' room' : List ℕ) (one : Numbers) → Brought bits reliabilities bits' reliabilities' k x one → (d : Drained) → SentAfter bits' reliabilities' room room' one d

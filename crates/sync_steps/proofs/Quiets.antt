@@ -10,6 +10,7 @@ use lib.ListN.{drop}
 use borrow.Author.Tests.{le-ltb}
 use Rattle.sync_numbers.specs.declared.numbers.Numbers.{Numbers}
 use Rattle.sync_frames.specs.declared.frames.Drained.{Drained}
+use Rattle.std.specs.Prelude.{None}
 use Rattle.sync_rules.specs.Ring.{ring}
 use Rattle.sync_numbers.specs.View.{view_of, Steady, Few}
 use Rattle.sync_numbers.specs.Numbers.{Dropped}
@@ -55,7 +56,7 @@ module _ (xs : List ℕ) (c : Numbers) (st : Steady c) where
       (sym (passed_none c.figures e) ∙ ap (λ (t : Bool). bits_passed 0 t c.figures) (sym (le-ltb 0 (c.pending - 1151) (omega arith))))
 
   -- a look at too few bits
-  looks_none : (b : Bool) → c.figures.locked ≡ b → (c.figures.locked ≡ true → c.pending < 384) → Looked xs c (record { ready = false; placed = false })
+  looks_none : (b : Bool) → c.figures.locked ≡ b → (c.figures.locked ≡ true → c.pending < 384) → Looked xs c None
   looks_none true e h = short xs c st e (h e)
   looks_none false e h = asleep xs c st e
 
@@ -63,11 +64,20 @@ module _ (bits reliabilities room : List ℕ) (c : Numbers) (st : Steady c) (w :
   few : Few c
   few = ((λ l. omega (arith, w.0 l)), w.1)
 
+  rests : DrainedBy bits reliabilities room room 0 3 (drain 3 (view_of bits reliabilities c)) c 0 (heads_of 3 [])
+  rests = ends bits reliabilities room 0 2 c st few false ((looks_none bits c st c.figures.locked refl w.0).same reliabilities) refl
+
   -- so that nothing follows once the bits are brought
   pub waits : SentAfter bits reliabilities room room c (nothing_of c)
-  waits =
-      subst (λ (m : State). DrainedBy bits reliabilities room room 0 3 (drain 3 m) c 0 (heads_of 3 [])) ((searches_none bits c st c.figures.locked refl w.1).same reliabilities)
-      (ends bits reliabilities room 0 2 c st few false ((looks_none bits c st c.figures.locked refl w.0).same reliabilities) refl)
+  waits = subst (λ (m : State). DrainedBy bits reliabilities room room 0 3 (drain 3 m) c 0 (heads_of 3 [])) ((searches_none bits c st c.figures.locked refl w.1).same reliabilities) rests
 
   pub waits_as : (d : Drained) → d ≡ nothing_of c → SentAfter bits reliabilities room room c d
   waits_as d e = subst (λ (z : Drained). SentAfter bits reliabilities room room c z) (sym e) waits
+
+  -- or once a search was made, from c₀ on
+  pub searched_rests : (c₀ : Numbers) → Searched bits c₀ c → SentAfter bits reliabilities room room c₀ (nothing_of c)
+  searched_rests c₀ s = subst (λ (m : State). DrainedBy bits reliabilities room room 0 3 (drain 3 m) c 0 (heads_of 3 [])) (s.same reliabilities) rests
+
+-- the frames behind a search
+pub searched_sends : (bits reliabilities room room' : List ℕ) (c r : Numbers) (d : Drained) → Searched bits c r → DrainedBy bits reliabilities room room' 0 3 (drain 3 (view_of bits reliabilities r)) d.numbers d.count d.heads → SentAfter bits reliabilities room room' c d
+searched_sends bits reliabilities room room' c r d s g = subst (λ (m : State). DrainedBy bits reliabilities room room' 0 3 (drain 3 m) d.numbers d.count d.heads) (s.same reliabilities) g

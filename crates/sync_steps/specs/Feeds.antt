@@ -1,24 +1,19 @@
 -- Many pushes in one call: one after the other, up to the first that sends frames or is refused, or to the end.
 -- Assumes nothing.
-use Rattle.std.specs.Prelude.{◌≡◌, List, [], ◌∷◌, map, true, false, ℕ, suc, ◌/◌, ◌%◌, ◌≤◌, length, take, drop}
-use Rattle.sync_inputs.specs.declared.Push.{Push}
-use Rattle.sync_inputs.specs.declared.Push.TheVariants.{Taken, Refused}
-use Rattle.sync_inputs.specs.declared.Given.{Given}
+use Rattle.std.specs.Prelude.{◌≡◌, List, [], ◌∷◌, ℕ, suc, Result, Ok, Err}
 use Rattle.sync_frames.specs.declared.frames.Drained.{Drained}
 use Rattle.sync_steps.specs.declared.feeds.Into.{Into}
-use Rattle.sync_inputs.specs.declared.Source.{Source}
-use Rattle.sync_inputs.specs.declared.Source.TheVariants.{Hard, Soft, Packed, Stretch}
 use Rattle.sync_numbers.specs.View.{Rings}
 use Rattle.sync_frames.specs.Frames.{DrainedBy}
-use Rattle.sync_inputs.specs.Inputs.{input_of}
 use Rattle.sync_inputs.specs.Answers.{answer_to}
-use Rattle.sync_rules.specs.State.{State, Input, hard}
+use Rattle.sync_rules.specs.State.{State, Input}
 use Rattle.sync_rules.specs.Frames.{Frame}
 use Rattle.sync_rules.specs.Pushes.{Out, step}
+use Rattle.bits.specs.declared.Refusal.{Refusal}
 
 pub record FedOut : Type 0 where
   pub used : ℕ  -- pushes made
-  pub answer : Push  -- `Taken`, or why the next push was refused
+  pub answer : Result Unit Refusal  -- `Taken`, or why the next push was refused
   pub sent : List Frame
   pub next : State
 
@@ -30,20 +25,20 @@ one_more o = record { used = suc o.used; answer = o.answer; sent = o.sent; next 
 unfoldable pub unless_sent : List Frame → State → FedOut → FedOut
 unfolding one_more
 unless_sent [] next rest = one_more rest
-unless_sent (f ∷ fs) next rest = record { used = 1; answer = Taken; sent = f ∷ fs; next = next }
+unless_sent (f ∷ fs) next rest = record { used = 1; answer = (Ok tt); sent = f ∷ fs; next = next }
 
 -- by the answer to a push on the state m that would give o
-unfoldable pub unless_refused : Push → State → Out → FedOut → FedOut
+unfoldable pub unless_refused : Result Unit Refusal → State → Out → FedOut → FedOut
 unfolding unless_sent
-unless_refused Taken m o rest = unless_sent o.sent o.next rest
-unless_refused (Refused f) m o rest = record { used = 0; answer = Refused f; sent = []; next = m }
+unless_refused (Ok u) m o rest = unless_sent o.sent o.next rest
+unless_refused (Err f) m o rest = record { used = 0; answer = Err f; sent = []; next = m }
 
 unfoldable pub fed_of : ℕ → List Input → State → FedOut
 unfolding answer_to step unless_refused
-fed_of room [] m = record { used = 0; answer = Taken; sent = []; next = m }
+fed_of room [] m = record { used = 0; answer = (Ok tt); sent = []; next = m }
 fed_of room (x ∷ xs) m = unless_refused (answer_to room x m) m (step x m) (fed_of room xs (step x m).next)
 
-abbrev pub into_of : Push → ℕ → Drained → Into
+abbrev pub into_of : Result Unit Refusal → ℕ → Drained → Into
 into_of a n d = record { answer = a; took = n; drained = d }
 
 -- the answer r, the lent rings after, and the room's bytes before and after are what o says

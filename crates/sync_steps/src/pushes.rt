@@ -11,9 +11,9 @@ use sync_pushes::search;
 use sync_rules::MOST_HELD;
 
 // Goes on once the bits of a push are brought: searches where there is no lock, then sends the frames that are ready.
-pub fn sends<'a>(
-    bits: &'a [u8; MOST_HELD],
-    reliabilities: &'a [u8; MOST_HELD],
+pub fn sends(
+    bits: &[u8; MOST_HELD],
+    reliabilities: &[u8; MOST_HELD],
     k: Numbers,
     room: &mut [u8],
 ) -> Drained
@@ -22,6 +22,5 @@ pub fn sends<'a>(
     requires fact_3 { room_size ≤ length room.old }
     ensures { SentAfter bits.now reliabilities.now room.old room.new k result }
 {
-    let found = search(bits, k);
-    drain(bits, reliabilities, found, room)
+    drain(bits, reliabilities, search(bits, k), room)
 }

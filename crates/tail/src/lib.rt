@@ -10,47 +10,44 @@ ghost use Rattle.tail_rules.specs.Calls.{tail_answer, tail_leaves, word_answer, 
 use bits::Refusal;
 use tail_lent::{may_erase, repair_lent};
 pub use tail_making::encode_word;
-pub use tail_rules::Repairing;
 
 // Repairs a lent tail with places erased and gives how many bytes it changed; it refuses by 5, 11 and 10, in this order, and then writes nothing.
-pub fn repair_erasures(tail: &mut [u8], places: &[u8]) -> Repairing
+pub fn repair_erasures(tail: &mut [u8], places: &[u8]) -> Result<usize, Refusal>
     ensures value { result ≡ tail_answer places.now tail.old }
     ensures leaves { tail.new ≡ tail_leaves places.now tail.old }
 {
     if tail.len() != 14 {
-        return Repairing::Refused(Refusal::Size);
+        return Err(Refusal::Size);
     }
     if !may_erase(places) {
-        return Repairing::Refused(Refusal::Erasure);
+        return Err(Refusal::Erasure);
     }
     repair_lent(tail, places)
 }
 
 // Repairs a lent tail with no place erased.
-pub fn repair(tail: &mut [u8]) -> Repairing
+pub fn repair(tail: &mut [u8]) -> Result<usize, Refusal>
     ensures value { result ≡ tail_answer [] tail.old }
     ensures leaves { tail.new ≡ tail_leaves [] tail.old }
 {
-    let none = [0u8; 1];
-    repair_erasures(tail, &none[..0])
+    repair_erasures(tail, &[])
 }
 
 // Repairs a lent word with places of its tail erased: only its last fourteen bytes are lent on.
-pub fn repair_word_erasures(word: &mut [u8], places: &[u8]) -> Repairing
+pub fn repair_word_erasures(word: &mut [u8], places: &[u8]) -> Result<usize, Refusal>
     ensures value { result ≡ word_answer places.now word.old }
     ensures leaves { word.new ≡ word_leaves places.now word.old }
 {
     if word.len() != 42 {
-        return Repairing::Refused(Refusal::Size);
+        return Err(Refusal::Size);
     }
     repair_erasures(&mut word[28..], places)
 }
 
 // Repairs a lent word with no place of its tail erased.
-pub fn repair_word(word: &mut [u8]) -> Repairing
+pub fn repair_word(word: &mut [u8]) -> Result<usize, Refusal>
     ensures value { result ≡ word_answer [] word.old }
     ensures leaves { word.new ≡ word_leaves [] word.old }
 {
-    let none = [0u8; 1];
-    repair_word_erasures(word, &none[..0])
+    repair_word_erasures(word, &[])
 }

@@ -1,50 +1,28 @@
 // Berlekamp-Massey: finds the shortest locator of a sequence. Crate `tail_rules`, specs/Massey.antt, has the same algorithm on lists; each function here is
 // one of its steps.
 ghost use Rattle.std.specs.Prelude.{◌≡◌, ◌+◌, ◌<◌, ◌≤◌};
-ghost use Rattle.field.specs.Lent.{Powers, Logs};
 ghost use Rattle.tail_rules.specs.Massey.{state, step, coefficient, run, updated};
 
+use field::Tables;
+
 // Adds k x^gap times the older locator to the locator.
-pub(crate) fn corrected(
-    powers: &field::PowerTable,
-    logs: &field::LogTable,
-    loc: [u8; 7],
-    gap: usize,
-    k: u8,
-    old: [u8; 7],
-) -> [u8; 7]
-    requires fact_1 { Powers powers.now }
-    requires fact_2 { Logs logs.now }
-    requires fact_3 { gap ≤ 7 }
+pub(crate) fn corrected(tables: &Tables, loc: [u8; 7], gap: usize, k: u8, old: [u8; 7]) -> [u8; 7]
+    requires { gap ≤ 7 }
     ensures { result ≡ updated loc gap k old }
 {
     let mut out = loc;
-    let mut i: usize = gap;
-    while i < 7 {
-        out[i] = loc[i] ^ field::product_by(powers, logs, k, old[i - gap]);
-        i += 1;
-    }
+    tables.add_multiple(&mut out[gap..], k, &old);
     out
 }
 
 // Sums the discrepancy of the locator at step n, from the highest coefficient down.
-pub(crate) fn discrepancy(
-    powers: &field::PowerTable,
-    logs: &field::LogTable,
-    loc: [u8; 7],
-    s: [u8; 6],
-    n: usize,
-) -> u8
-    requires fact_1 { Powers powers.now }
-    requires fact_2 { Logs logs.now }
-    requires fact_3 { n < 6 }
+pub(crate) fn discrepancy(tables: &Tables, loc: [u8; 7], s: [u8; 6], n: usize) -> u8
+    requires { n < 6 }
     ensures { result ≡ coefficient loc s n }
 {
-    let mut d: u8 = 0;
-    let mut i: usize = n + 1;
-    while 0 < i {
-        i -= 1;
-        d = field::product_by(powers, logs, loc[i], s[n - i]) ^ d;
+    let mut d = 0;
+    for i in (0..n + 1).rev() {
+        d = tables.product(loc[i], s[n - i]) ^ d;
     }
     d
 }
@@ -59,74 +37,67 @@ pub struct State {
     pub last: u8,
 }
 
-// Takes step n with the discrepancy d: where that is 0 the locator stays, else it is corrected, and grows where it is too short.
-fn step(powers: &field::PowerTable, logs: &field::LogTable, st: State, d: u8, n: usize) -> State
-    requires fact_1 { Powers powers.now }
-    requires fact_2 { Logs logs.now }
-    requires fact_3 { n < 6 }
-    requires fact_4 { st.gap ≤ n + 1 }
-    requires fact_5 { st.degree ≤ n }
-    ensures { state result.loc result.old result.degree result.gap result.last ≡ step n (state st.loc st.old st.degree st.gap st.last) d }
-{
-    let loc = st.loc;
-    let old = st.old;
-    let degree = st.degree;
-    let gap = st.gap;
-    let last = st.last;
-    if d == 0 {
-        return State {
-            loc: loc,
-            old: old,
-            degree: degree,
-            gap: gap + 1,
-            last: last,
-        };
-    }
-    let k = field::quotient_by(powers, logs, d, last);
-    let more = corrected(powers, logs, loc, gap, k, old);
-    if 2 * degree <= n {
-        return State {
+impl State {
+    // Takes step n with the discrepancy d: where that is 0 the locator stays, else it is corrected, and grows where it is too short.
+    fn step(self, tables: &Tables, d: u8, n: usize) -> State
+        requires fact_1 { n < 6 }
+        requires fact_2 { self.gap ≤ n + 1 }
+        requires fact_3 { self.degree ≤ n }
+        ensures { state result.loc result.old result.degree result.gap result.last ≡ step n (state self.loc self.old self.degree self.gap self.last) d }
+    {
+        let State {
+            loc,
+            old,
+            degree,
+            gap,
+            last,
+        } = self;
+        if d == 0 {
+            return State {
+                loc,
+                old,
+                degree,
+                gap: gap + 1,
+                last,
+            };
+        }
+        let k = tables.quotient(d, last);
+        let more = corrected(tables, loc, gap, k, old);
+        if 2 * degree <= n {
+            return State {
+                loc: more,
+                old: loc,
+                degree: n + 1 - degree,
+                gap: 1,
+                last: d,
+            };
+        }
+        State {
             loc: more,
-            old: loc,
-            degree: n + 1 - degree,
-            gap: 1,
-            last: d,
-        };
-    }
-    State {
-        loc: more,
-        old: old,
-        degree: degree,
-        gap: gap + 1,
-        last: last,
+            old,
+            degree,
+            gap: gap + 1,
+            last,
+        }
     }
 }
 
 // Finds the shortest locator of the first `len` terms.
-pub fn shortest_locator(
-    powers: &field::PowerTable,
-    logs: &field::LogTable,
-    s: [u8; 6],
-    len: usize,
-) -> State
-    requires fact_1 { Powers powers.now }
-    requires fact_2 { Logs logs.now }
-    requires fact_3 { len ≤ 6 }
+pub fn shortest_locator(tables: &Tables, s: [u8; 6], len: usize) -> State
+    requires { len ≤ 6 }
     ensures { (state result.loc result.old result.degree result.gap result.last ≡ run s len) × (result.degree ≤ len) }
 {
+    let one = [1, 0, 0, 0, 0, 0, 0];
     let mut st = State {
-        loc: [1, 0, 0, 0, 0, 0, 0],
-        old: [1, 0, 0, 0, 0, 0, 0],
+        loc: one,
+        old: one,
         degree: 0,
         gap: 1,
         last: 1,
     };
-    let mut n: usize = 0;
-    while n < len {
-        let loc = st.loc;
-        let d = discrepancy(powers, logs, loc, s, n);
-        st = step(powers, logs, st, d, n);
-        n += 1;
+    for n in 0..len {
+        let d = discrepancy(tables, st.loc, s, n);
+        st = st.step(tables, d, n);
     }
     st
 }

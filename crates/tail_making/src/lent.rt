@@ -3,6 +3,7 @@ ghost use Rattle.std.specs.Prelude.{◌≡◌, length, take};
 ghost use Rattle.tail_rules.specs.Encode.{tail_of};
 
 use crate::by_value::tail_by;
+use field::Tables;
 
 // Copies the first six bytes of a tail out.
 fn six(tail: &[u8]) -> [u8; 6]
@@ -10,7 +11,7 @@ fn six(tail: &[u8]) -> [u8; 6]
     ensures { result ≡ take 6 tail.now }
 {
     let mut out = [0u8; 6];
-    bits::copy(&tail[..6], &mut out);
+    out.copy_from_slice(&tail[..6]);
     out
 }
 
@@ -19,7 +20,6 @@ pub(crate) fn make_tail(tail: &mut [u8])
     requires { length tail.old ≡ 14 }
     ensures { tail.new ≡ tail_of (take 6 tail.old) }
 {
-    let d = six(tail);
-    let t = tail_by(&field::powers(), &field::logs(), d);
-    bits::copy(&t, tail);
+    let made = tail_by(&Tables::new(), six(tail));
+    tail.copy_from_slice(&made);
 }

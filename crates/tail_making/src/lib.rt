@@ -6,7 +6,7 @@
 ghost use Rattle.std.specs.Prelude.{◌≡◌};
 ghost use Rattle.tail_rules.specs.Encode.{encode_answer, encode_leaves};
 
-use bits::{Refusal, Writing};
+use bits::Refusal;
 
 mod by_value;
 mod lent;
@@ -14,13 +14,13 @@ mod lent;
 pub use by_value::tail_by;
 
 // Makes the tail of a lent word from its bytes 28 to 33. Refuses (5) a word that is not 42 bytes, and then writes nothing.
-pub fn encode_word(word: &mut [u8]) -> Writing
+pub fn encode_word(word: &mut [u8]) -> Result<(), Refusal>
     ensures value { result ≡ encode_answer word.old }
     ensures leaves { word.new ≡ encode_leaves word.old }
 {
     if word.len() != 42 {
-        return Writing::Refused(Refusal::Size);
+        return Err(Refusal::Size);
     }
     lent::make_tail(&mut word[28..]);
-    Writing::Written
+    Ok(())
 }

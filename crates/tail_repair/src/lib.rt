@@ -5,24 +5,23 @@
 
 ghost use Rattle.std.specs.Prelude.{◌≡◌, [], ◌≤◌, length};
 ghost use Rattle.bits.specs.Bit.{Below, Bytes};
-ghost use Rattle.field.specs.Lent.{Powers, Logs};
 ghost use Rattle.tail_rules.specs.Code.{wrong};
-ghost use Rattle.tail_rules.specs.Repair.{refused, repair_of};
-ghost use Rattle.tail_rules.specs.Calls.{answer_of, tail_in};
+ghost use Rattle.tail_rules.specs.Repair.{repair_of};
+ghost use Rattle.tail_rules.specs.Calls.{repaired_as};
 
 use bits::Refusal;
+use field::Tables;
 use tail_correcting::correct;
 use tail_places::{all_zero, locate, syndromes_of};
-use tail_rules::Repairing;
+use tail_rules::RepairedTail;
 
-// Counts the bytes in which the two differ. It goes from the last to the first: the definition counts the rest of a list first.
+// kept: a `for`, for speed: as in `zeros` of `tail_places`, a chain that counts executes more.
+// Counts the bytes in which the two differ.
 fn changed(t: [u8; 14], c: [u8; 14]) -> usize
     ensures { result ≡ wrong [] t c }
 {
     let mut n: usize = 0;
-    let mut i: usize = 14;
-    while 0 < i {
-        i -= 1;
+    for i in 0..14 {
         if t[i] != c[i] {
             n += 1;
         }
@@ -30,58 +29,26 @@ fn changed(t: [u8; 14], c: [u8; 14]) -> usize
     n
 }
 
-// A repair's answer, and the tail beside it: the codeword, or all zero when refused.
-#[derive(Clone, Copy)]
-pub struct RepairedTail {
-    pub answer: Repairing,
-    pub tail: [u8; 14],
-}
-
-// Gives the answer of a tail that has no repair: refusal 10, and zeros beside it.
-fn refused() -> RepairedTail
-    ensures { (result.answer ≡ answer_of refused) × (result.tail ≡ tail_in refused) }
-{
-    RepairedTail {
-        answer: Repairing::Refused(Refusal::Tail),
-        tail: [0u8; 14],
-    }
-}
-
 // Repairs a tail with at most six places erased: by Berlekamp-Massey and the root search, the system, and the check of all syndromes.
-pub fn repair_by(
-    powers: &field::PowerTable,
-    logs: &field::LogTable,
-    tail: [u8; 14],
-    places: &[u8],
-) -> RepairedTail
-    requires fact_1 { Powers powers.now }
-    requires fact_2 { Logs logs.now }
-    requires fact_3 { Bytes tail }
-    requires fact_4 { length places.now ≤ 6 }
-    requires fact_5 { Below 14 places.now }
-    ensures { (result.answer ≡ answer_of (repair_of places.now tail)) × (result.tail ≡ tail_in (repair_of places.now tail)) }
+pub fn repair_by(tables: &Tables, tail: [u8; 14], places: &[u8]) -> Result<RepairedTail, Refusal>
+    requires fact_1 { Bytes tail }
+    requires fact_2 { length places.now ≤ 6 }
+    requires fact_3 { Below 14 places.now }
+    ensures { result ≡ repaired_as (repair_of places.now tail) }
 {
-    let s = syndromes_of(powers, logs, tail);
+    let s = syndromes_of(tables, tail);
     if all_zero(s) {
-        return RepairedTail {
-            answer: Repairing::Repaired(0),
-            tail: tail,
-        };
+        return Ok(RepairedTail { changed: 0, tail });
     }
-    let found = locate(powers, logs, s, places);
-    let ok = found.ok;
-    let marks = found.marks;
-    if !ok {
-        return refused();
+    let Some(marks) = locate(tables, s, places) else {
+        return Err(Refusal::Tail);
+    };
+    let c = correct(tables, tail, s, marks);
+    if !all_zero(syndromes_of(tables, c)) {
+        return Err(Refusal::Tail);
     }
-    let c = correct(powers, logs, tail, s, marks);
-    let after = syndromes_of(powers, logs, c);
-    if !all_zero(after) {
-        return refused();
-    }
-    let n = changed(tail, c);
-    RepairedTail {
-        answer: Repairing::Repaired(n),
+    Ok(RepairedTail {
+        changed: changed(tail, c),
         tail: c,
-    }
+    })
 }

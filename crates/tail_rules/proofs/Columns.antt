@@ -6,13 +6,13 @@ use Prim.Native.Nat.{ℕ, zero, suc, ◌<◌}
 use native.Mathlib.Omega.{arith}
 use lib.ListN.{length, get_or}
 use lib.Bits.{bit_xor}
-use Rattle.field_rules.specs.Field.{product, quotient}
+use Rattle.field_rules.specs.Field.{product, quotient, add_scaled}
 use Rattle.field_rules.proofs.Products.{product_zero_r}
 use Rattle.field_rules.proofs.Laws.{quotient_product}
 use Rattle.tail_algebra.proofs.Bytes.{Byte, byte_eq, gf}
 use Rattle.tail_algebra.proofs.Low.{lo, lo_xor, lo_product, mat}
 use Rattle.tail_algebra.proofs.Elimination.{Cleared, Swapped}
-use Rattle.tail_rules.specs.Steps.{add_scaled, scale_by, ClearedBy, SwappedRows}
+use Rattle.tail_rules.specs.Steps.{scale_by, ClearedBy, SwappedRows}
 
 pub at_all : (a : List ℕ) (k : ℕ) (b : List ℕ) (c : ℕ) → length a ≡ length b
     → get_or (add_scaled a k b) c 0 ≡ bit_xor (get_or a c 0) (product k (get_or b c 0))
@@ -27,7 +27,6 @@ at_all (x ∷ xs) k (y ∷ ys) (suc c) e = at_all xs k ys c (down e)
     down q = omega arith
 
 pub at_scale : (k : ℕ) (a : List ℕ) (c : ℕ) → get_or (scale_by k a) c 0 ≡ product k (get_or a c 0)
-unfolding scale_by
 at_scale k [] c = sym (product_zero_r k)
 at_scale k (x ∷ xs) zero = refl
 at_scale k (x ∷ xs) (suc c) = at_scale k xs c

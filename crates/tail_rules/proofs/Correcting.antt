@@ -28,7 +28,7 @@ use Rattle.tail_algebra.proofs.Erasures.{marked, cons_mark, marked_moment, marke
 use Rattle.tail_algebra.proofs.Bytes.{Byte, byte_eq, gf, X, distinct, zero_lt}
 use Rattle.tail_algebra.proofs.Low.{lo, mat}
 use Rattle.tail_rules.specs.Code.{syndrome, Codeword}
-use Rattle.tail_rules.specs.Steps.{exponents_of, added_at, entry, SystemOf, Rows, Regular, Solved, MayDiffer, Corrected}
+use Rattle.tail_rules.specs.Steps.{exponents_of, added_at, entry, SystemOf, Regular, Solved, MayDiffer, Corrected}
 use Rattle.tail_rules.proofs.Loops.{length_added}
 use Rattle.tail_rules.proofs.AtMostOne.{get_d_lift, at, difference_moment}
 
@@ -197,9 +197,6 @@ module _ (s w a : List ℕ) (count : ℕ) (m : List (List ℕ)) (lw : length w �
 
   distinct_U : Distinct gf X U
   distinct_U = marked_distinct gf X (marks w) (places (length w)) (subst (λ (n : ℕ). Distinct gf X (places n)) (sym lw) distinct)
-
-  pub system_rows : Rows count m
-  system_rows = record { long = sys.long; rows = λ r l. (sys.rows r (omega (arith, l, cn))).long }
 
   pub system_regular : Regular count m
   system_regular = subst (λ (n : ℕ). Regular n m) count_U (only_zero gf X 13 U S (mat m) system distinct_U)

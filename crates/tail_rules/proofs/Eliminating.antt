@@ -1,19 +1,18 @@
 -- One column of the elimination, and what is known when all are done.
 -- Assumes nothing.
-use mathlib.Core.Path.{◌≡◌, refl, sym, ap, subst, ◌∙◌}
+use mathlib.Core.Path.{◌≡◌, refl, sym, ap, ◌∙◌}
 use mathlib.Core.List.{List, []}
-use Prim.Native.Nat.{ℕ, zero, suc, ◌+◌, ◌<◌}
-use native.Mathlib.Nat.{not-suc-le-zero}
-use native.Mathlib.Decide.{ℕ_discrete, dec_lt}
-use native.Mathlib.Numerals.{add-one}
+use Prim.Native.Nat.{ℕ, zero, suc, ◌<◌}
+use native.Mathlib.Decide.{ℕ_discrete}
 use native.Mathlib.Omega.{arith}
 use lib.ListN.{length, get_or}
+use Rattle.std.specs.declared.option.Option.TheVariants.{Some}
 use Rattle.field_rules.specs.Field.{quotient}
+use Rattle.field_rules.proofs.Rows.{length_add_scaled}
 use Rattle.tail_algebra.proofs.Bytes.{Byte, byte_eq, gf}
 use Rattle.tail_algebra.proofs.Low.{lo, mat}
 use Rattle.tail_algebra.proofs.Elimination.{Solves, Units, Cleared, Swapped, cleared_to, cleared_from, swapped_to, swapped_back, units_cleared, units_swapped, done, stuck, kernel_of, kernel_one, kernel_high}
 use Rattle.tail_rules.specs.Steps.{entry, ScaledRow, ClearedBy, SwappedRows, PivotAt, Rows, Regular, HasPivot, Eliminated, ColumnOf, Solved}
-use Rattle.tail_rules.proofs.Rows.{length_add_scaled}
 use Rattle.tail_rules.proofs.Loops.{length_scale}
 use Rattle.tail_rules.proofs.Columns.{cleared, swapped}
 
@@ -21,16 +20,11 @@ positive : (x : ℕ) → ¬ (x ≡ 0) → 0 < x
 positive zero h = absurd (h refl)
 positive (suc x) h = omega arith
 
--- a pivot there is
-pub pivot_in : (count col i : ℕ) (m : List (List ℕ)) → HasPivot count col m → PivotAt m col count i → i < count
-pivot_in count col i m has p = go (dec_lt i count)
-  where
-    go : Dec (i < count) → i < count
-    go (yes l) = l
-    go (no l) = absurd (has (p.dead (omega (arith, l))))
-
-module _ (count col i : ℕ) (m a b r : List (List ℕ)) (inside : col < count) (rows : Rows count m) (p : PivotAt m col count i) (low : i < count)
+module _ (count col i : ℕ) (m a b r : List (List ℕ)) (inside : col < count) (rows : Rows count m) (p : PivotAt m col count (Some i))
     (sw : SwappedRows m col i a) (sc : ScaledRow a col b) (cl : ClearedBy b col count r) where
+  low : i < count
+  low = (p.live i refl).1
+
   rows_a : (k : ℕ) → k < count → length (get_or a k []) ≡ 7
   rows_a k l = go (ℕ_discrete k col) (ℕ_discrete k i)
     where
@@ -54,7 +48,7 @@ module _ (count col i : ℕ) (m a b r : List (List ℕ)) (inside : col < count) 
       go (no e) = ap length (cl.others k l e) ∙ length_add_scaled _ _ _ ∙ rows_b k l
 
   live : ¬ (entry a col col ≡ 0)
-  live e = p.live low (ap (λ (l : List ℕ). get_or l col 0) (sym sw.first) ∙ e)
+  live e = (p.live i refl).2 (ap (λ (l : List ℕ). get_or l col 0) (sym sw.first) ∙ e)
 
   step_swap : Swapped gf count col i (mat m) (mat a)
   step_swap = swapped count col i m a sw
@@ -74,7 +68,7 @@ module _ (count col i : ℕ) (m a b r : List (List ℕ)) (inside : col < count) 
             (cleared_from gf count (suc count) col (mat a) (mat r) step_clear inside z h);
         unit = λ u.
             units_cleared gf count col (mat a) (mat r) step_clear inside
-            (units_swapped gf count col col i (mat m) (mat a) step_swap (omega arith) p.from inside low (omega arith) u);
+            (units_swapped gf count col col i (mat m) (mat a) step_swap (omega arith) (p.live i refl).0 inside low (omega arith) u);
       }
 
 -- ---- the loop
@@ -84,24 +78,6 @@ pub record Solving (count col : ℕ) (m a : List (List ℕ)) : Type 0 where
   pub to : (z : ℕ → Byte) → Solves gf count (suc count) (mat m) z → Solves gf count (suc count) (mat a) z
   pub from : (z : ℕ → Byte) → Solves gf count (suc count) (mat a) z → Solves gf count (suc count) (mat m) z
   pub unit : Units gf count col (mat a)
-
-pub solving_none : (count : ℕ) (m : List (List ℕ)) → Rows count m → Solving count 0 m m
-solving_none count m rows =
-    record {
-      rows = rows;
-      to = λ z h. h;
-      from = λ z h. h;
-      unit = record { ones = λ r l. absurd (not-suc-le-zero l); zeros = λ r c l h. absurd (not-suc-le-zero h) };
-    }
-
-pub solving_more : (count col : ℕ) (m a r : List (List ℕ)) → Solving count col m a → Eliminated count col a r → Solving count (col + 1) m r
-solving_more count col m a r s e =
-    record {
-      rows = e.rows;
-      to = λ z h. e.to z (s.to z h);
-      from = λ z h. s.from z (e.from z h);
-      unit = subst (λ (k : ℕ). Units gf count k (mat r)) (sym (add-one col)) (e.unit s.unit);
-    }
 
 pub solving_pivot : (count col : ℕ) (m a : List (List ℕ)) → col < count → Regular count m → Solving count col m a → HasPivot count col a
 unfolding mat lo

@@ -18,7 +18,7 @@ use Rattle.bits.proofs.Alls.{all_map}
 use Rattle.tail_algebra.proofs.Vandermonde.{moment}
 use Rattle.tail_algebra.proofs.Polynomial.{eval, DegLe}
 use Rattle.tail_algebra.proofs.Massey.{conv}
-use Rattle.tail_algebra.proofs.Locate.{State, run}
+use Rattle.tail_algebra.proofs.Locate.{State}
 use Rattle.tail_algebra.proofs.Word.{places, all_below_lem, errors, erased, tick}
 use Rattle.tail_algebra.proofs.System.{all_at}
 use Rattle.tail_algebra.proofs.Erasures.{gamma, deg_gamma, zer, cons_yes}
@@ -26,6 +26,7 @@ use Rattle.tail_algebra.proofs.Complete.{st, degree_small, roots_many, covered}
 use Rattle.tail_algebra.proofs.Bytes.{Byte, byte_eq, gf, X, distinct, zero_lt}
 use Rattle.tail_rules.specs.Code.{syndrome, among, one_if, wrong_from, Near}
 use Rattle.tail_rules.specs.Massey as N
+use Rattle.std.specs.declared.option.Option.TheVariants.{None, Some}
 use Rattle.tail_rules.specs.Steps.{erasure_locator, Forney, eval_at, mark_at, exponents_of, MayDiffer, Located}
 use Rattle.tail_rules.proofs.AtMostOne.{get_d_lift, at, difference_moment, wrong_bound, few, erased_suc}
 use Rattle.tail_rules.proofs.OnBytes.{low, down, conv_low, run_low, eval_low, Z, XZ, gamma_low, erased_root, other_live}
@@ -230,34 +231,44 @@ module _ (es s q : List ℕ) (fits : length es ≤ 6) (ins : Below 14 es) (fq : 
 
   -- ---- what the search answers
 
-  pub refused_degree : (w : List ℕ) → length w ≡ 14 → 6 < 2 * st_n.degree + length es → Located es s false w
-  refused_degree w l h =
+  nothing : ((t c : List ℕ) → length t ≡ 14 → Bytes t → s ≡ tab 6 (syndrome t) → ¬ Near es t c) → Located es s None
+  nothing h =
       record {
-        long = l;
-        few = λ e. absurd (false≢true e);
-        close = λ e. absurd (false≢true e);
-        all = λ t c lt ht syn near. absurd (omega (arith, degree_passes t c lt ht syn near));
-      }
-
-  pub refused_roots : (w : List ℕ) → length w ≡ 14 → ¬ (length (exponents_of (tab 14 value_at)) ≡ st_n.degree) → Located es s false w
-  refused_roots w l h =
-      record {
-        long = l;
-        few = λ e. absurd (false≢true e);
-        close = λ e. absurd (false≢true e);
-        all = λ t c lt ht syn near. absurd (h (roots_pass t c lt ht syn near));
-      }
-
-  pub accepted : 2 * st_n.degree + length es ≤ 6 → length (exponents_of (tab 14 value_at)) ≡ st_n.degree
-      → Located es s true (tab 14 (mark_at es (tab 14 value_at)))
-  accepted d r =
-      record {
-        long = length_tab 14 (mark_at es (tab 14 value_at));
-        few = λ e. omega (arith, mark_count 14 (λ p. among p es) (λ p. get_or (tab 14 value_at) p 0), few 14 es, ap (λ (l : List ℕ). length (exponents_of l)) back, r, d);
-        close = λ e t c lt lc m. omega (arith, wrong_le 0 es t c (tab 14 value_at) (lt ∙ sym long) (lc ∙ sym long) (agree t c m), r, d);
-        all = λ t c lt ht syn near. (refl, marks_cover t c lt ht syn near);
+        long = λ w e. absurd (none e);
+        few = λ w e. absurd (none e);
+        close = λ w e. absurd (none e);
+        all = λ t c lt ht syn near. absurd (h t c lt ht syn near);
       }
     where
+      none : {w : List ℕ} → ¬ (None ≡ Some w)
+      none e = cc
+
+  pub refused_degree : 6 < 2 * st_n.degree + length es → Located es s None
+  refused_degree h = nothing (λ t c lt ht syn near. omega (arith, degree_passes t c lt ht syn near))
+
+  pub refused_roots : ¬ (length (exponents_of (tab 14 value_at)) ≡ st_n.degree) → Located es s None
+  refused_roots h = nothing (λ t c lt ht syn near. h (roots_pass t c lt ht syn near))
+
+  pub accepted : 2 * st_n.degree + length es ≤ 6 → length (exponents_of (tab 14 value_at)) ≡ st_n.degree
+      → Located es s (Some (tab 14 (mark_at es (tab 14 value_at))))
+  accepted d r =
+      record {
+        long = λ w e. subst (λ (v : List ℕ). length v ≡ 14) (inside e) (length_tab 14 (mark_at es (tab 14 value_at)));
+        few = λ w e. subst (λ (v : List ℕ). length (exponents_of v) ≤ 6) (inside e)
+            (omega (arith, mark_count 14 (λ p. among p es) (λ p. get_or (tab 14 value_at) p 0), few 14 es, ap (λ (l : List ℕ). length (exponents_of l)) back, r, d));
+        close = λ w e t c lt lc m. omega (
+          arith,
+          wrong_le 0 es t c (tab 14 value_at) (lt ∙ sym long) (lc ∙ sym long)
+              (agree t c (subst (λ (v : List ℕ). MayDiffer v t c) (sym (inside e)) m)),
+          r,
+          d,
+        );
+        all = λ t c lt ht syn near. (tab 14 (mark_at es (tab 14 value_at)), refl, marks_cover t c lt ht syn near);
+      }
+    where
+      inside : {v w : List ℕ} → Some v ≡ Some w → v ≡ w
+      inside e = cc
+
       long : length (tab 14 value_at) ≡ 14
       long = length_tab 14 value_at
 

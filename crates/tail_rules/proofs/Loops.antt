@@ -1,18 +1,22 @@
 -- The turns of the loops: each law takes what was known before a turn to what is known after it.
 -- Assumes nothing.
-use mathlib.Core.Bool.{◌||◌, cond, Bool, true, false, false≢true}
+use mathlib.Core.Bool.{cond, Bool, true, false, false≢true}
 use mathlib.Core.Path.{◌≡◌, refl, sym, ap, ap₂, ◌∙◌}
-use mathlib.Core.List.{List, [], ◌∷◌, ◌++◌, append_assoc}
+use mathlib.Core.List.{List, [], ◌∷◌, ◌++◌, append_assoc, reverse}
 use Prim.Native.Nat.{ℕ, zero, suc, ◌+◌, ◌*◌, ◌-◌, ◌<◌, ◌≤◌}
 use native.Mathlib.Nat.{le_of_suc-le-suc, mul-le-mul}
-use native.Mathlib.Numerals.{add-one}
+use native.Mathlib.Numerals.{add-one, one-add}
 use native.Mathlib.Omega.{arith}
 use lib.Dec.{eqb}
-use lib.Bits.{bit_xor}
+use lib.Bits.{bit_xor, xor_comm}
 use lib.ListN.{length, get_or, set, take, drop, drop_of_length-le, length-drop}
 use lib.Seq.{drop-cons, take-suc-set}
 use borrow.Author.Tests.{eq-eqb, ne_eqb}
+use Rattle.std.specs.List.{count_by}
+use Rattle.std.proofs.lemmas.Grind.{reverse_onto}
+use Rattle.std.proofs.lemmas.List.Recursion.{is_count_by}
 use Rattle.field_rules.specs.Field.{product, power}
+use Rattle.field_rules.proofs.Laws.{product_comm}
 use Rattle.tail_rules.specs.Code.{value, among, one_if, wrong_from}
 use Rattle.tail_rules.specs.Massey.{updated}
 use Rattle.tail_rules.specs.Steps.{erasure_locator, eval_at, exponents_of, added_at, scale_by}
@@ -38,31 +42,19 @@ horner_end t i v x h = ap (λ (l : List ℕ). value v l x) (sym (drop_end t i h)
 
 -- ---- the locator's value
 
-pub eval_more : (c : List ℕ) (i z v u : ℕ) → i < length c → v ≡ eval_at (drop (i + 1) c) z → u ≡ product z v → bit_xor (get_or c i 0) u ≡ eval_at (drop i c) z
-unfolding eval_at
-eval_more c i z v u h e q =
-    ap (λ (y : ℕ). bit_xor (get_or c i 0) y) (q ∙ ap (product z) e) ∙ ap (λ (l : List ℕ). eval_at l z) (sym (cut c i h))
+value_last : (v : ℕ) (l : List ℕ) (c z : ℕ) → value v (l ++ (c ∷ [])) z ≡ bit_xor (product (value v l z) z) c
+unfolding value
+value_last v [] c z = refl
+value_last v (b ∷ l) c z = value_last (bit_xor (product v z) b) l c z
 
-pub eval_end : (c : List ℕ) (i z : ℕ) → length c ≤ i → 0 ≡ eval_at (drop i c) z
-unfolding eval_at
-eval_end c i z h = ap (λ (l : List ℕ). eval_at l z) (sym (drop_end c i h))
-
--- ---- among
-
-among_by : (b : Bool) (x e : ℕ) (es : List ℕ) → eqb x e ≡ b → among x (e ∷ es) ≡ cond b true (among x es)
-among_by true x e es q = ap (λ (b : Bool). b || among x es) q
-among_by false x e es q = ap (λ (b : Bool). b || among x es) q
-
-pub among_here : (x : ℕ) (es : List ℕ) (i y : ℕ) → i < length es → y ≡ get_or es i 0 → y ≡ x → true ≡ among x (drop i es)
-among_here x es i y h e q =
-    sym (ap (among x) (cut es i h) ∙ among_by true x (get_or es i 0) (drop (i + 1) es) (eq-eqb x (get_or es i 0) (sym q ∙ e)))
-
-pub among_later : (x : ℕ) (es : List ℕ) (i y : ℕ) → i < length es → y ≡ get_or es i 0 → ¬ (y ≡ x) → among x (drop (i + 1) es) ≡ among x (drop i es)
-among_later x es i y h e q =
-    sym (ap (among x) (cut es i h) ∙ among_by false x (get_or es i 0) (drop (i + 1) es) (ne_eqb x (get_or es i 0) (λ p. q (e ∙ sym p))))
-
-pub among_none : (x : ℕ) (es : List ℕ) (i : ℕ) → length es ≤ i → false ≡ among x (drop i es)
-among_none x es i h = ap (among x) (sym (drop_end es i h))
+-- from the highest coefficient down, by Horner
+pub eval_reversed : (c : List ℕ) (z : ℕ) → value 0 (reverse c) z ≡ eval_at c z
+unfolding eval_at value
+eval_reversed [] z = refl
+eval_reversed (x ∷ xs) z =
+    ap (λ (l : List ℕ). value 0 l z) (reverse_onto xs x []) ∙ value_last 0 (reverse xs) x z
+    ∙ xor_comm (product (value 0 (reverse xs) z) z) x
+    ∙ ap (bit_xor x) (product_comm (value 0 (reverse xs) z) z ∙ ap (product z) (eval_reversed xs z))
 
 -- ---- exponents
 
@@ -80,6 +72,16 @@ pub exponents_end : (v : List ℕ) (i : ℕ) → length v ≤ i → exponents_of
 unfolding exponents_of
 exponents_end v i h = ap exponents_of (drop_end v i h)
 
+one_exponent : (b : Bool) (e : ℕ) (r : List ℕ) → length (cond b (e ∷ r) r) ≡ cond b (1 + length r) (length r)
+one_exponent true e r = sym (one-add (length r))
+one_exponent false e r = refl
+
+-- as many as the zeros
+pub zeros_are : (v : List ℕ) → count_by (λ x. eqb x 0) v ≡ length (exponents_of v)
+unfolding exponents_of
+zeros_are v =
+    sym (is_count_by (λ (l : List ℕ). length (exponents_of l)) (λ x. eqb x 0) refl (λ x xs. one_exponent (eqb x 0) (length xs) (exponents_of xs)) v)
+
 -- ---- erasure locator
 
 pub erasure_more : (es : List ℕ) (i : ℕ) (g : List ℕ) (x : ℕ) → i < length es → g ≡ erasure_locator (drop (i + 1) es) → x ≡ power (13 - get_or es i 0)
@@ -95,7 +97,6 @@ erasure_end es i h = ap erasure_locator (sym (drop_end es i h))
 -- ---- a row scaled
 
 pub length_scale : (k : ℕ) (a : List ℕ) → length (scale_by k a) ≡ length a
-unfolding scale_by
 length_scale k [] = refl
 length_scale k (x ∷ xs) = ap suc (length_scale k xs)
 
@@ -119,26 +120,6 @@ small_product r w h l = mul-le-mul (lower r h) (lower w l)
     lower k q = le_of_suc-le-suc q
 
 -- ---- counting differences
-
-wrong_by : (b : Bool) (i x y : ℕ) (xs ys : List ℕ) → eqb x y ≡ b → wrong_from i [] (x ∷ xs) (y ∷ ys) ≡ one_if false b (wrong_from (suc i) [] xs ys)
-wrong_by b i x y xs ys e = ap (λ (b : Bool). one_if false b (wrong_from (suc i) [] xs ys)) e
-
-pub wrong_differ : (t c : List ℕ) (i : ℕ) → i < length t → i < length c → ¬ (get_or t i 0 ≡ get_or c i 0)
-    → wrong_from (i + 1) [] (drop (i + 1) t) (drop (i + 1) c) + 1 ≡ wrong_from i [] (drop i t) (drop i c)
-wrong_differ t c i ht hc e =
-    add-one _ ∙ ap (λ (k : ℕ). suc (wrong_from k [] (drop (i + 1) t) (drop (i + 1) c))) (add-one i)
-    ∙ sym (ap₂ (λ (a b : List ℕ). wrong_from i [] a b) (cut t i ht) (cut c i hc)
-    ∙ wrong_by false i (get_or t i 0) (get_or c i 0) (drop (i + 1) t) (drop (i + 1) c) (ne_eqb (get_or t i 0) (get_or c i 0) e))
-
-pub wrong_same : (t c : List ℕ) (i : ℕ) → i < length t → i < length c → get_or t i 0 ≡ get_or c i 0
-    → wrong_from (i + 1) [] (drop (i + 1) t) (drop (i + 1) c) ≡ wrong_from i [] (drop i t) (drop i c)
-wrong_same t c i ht hc e =
-    ap (λ (k : ℕ). wrong_from k [] (drop (i + 1) t) (drop (i + 1) c)) (add-one i)
-    ∙ sym (ap₂ (λ (a b : List ℕ). wrong_from i [] a b) (cut t i ht) (cut c i hc)
-    ∙ wrong_by true i (get_or t i 0) (get_or c i 0) (drop (i + 1) t) (drop (i + 1) c) (eq-eqb (get_or t i 0) (get_or c i 0) e))
-
-pub wrong_end : (t c : List ℕ) (i : ℕ) → length t ≤ i → 0 ≡ wrong_from i [] (drop i t) (drop i c)
-wrong_end t c i h = ap (λ (a : List ℕ). wrong_from i [] a (drop i c)) (sym (drop_end t i h))
 
 -- a word differs from itself nowhere
 one_same : (a b : Bool) (n : ℕ) → b ≡ true → one_if a b n ≡ n

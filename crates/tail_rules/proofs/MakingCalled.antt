@@ -1,5 +1,6 @@
 -- What the call answers and leaves, way by way.
 -- Assumes nothing.
+use Rattle.std.proofs.Common.{Ok, Err}
 use mathlib.Core.Bool.{cond}
 use mathlib.Core.List.{List, ◌++◌}
 use mathlib.Core.Path.{◌≡◌, sym, ap, ap₂, ◌∙◌}
@@ -11,7 +12,6 @@ use lib.ListN.{length, take, drop, length-drop}
 use lib.Seq.{take-add, take_at, drop_at, length-take-le}
 use borrow.Rule.Slice.PartMut.{mid_of, put_mid}
 use Rattle.bits.specs.declared.Refusal.TheVariants.{Size}
-use Rattle.bits.specs.declared.Writing.TheVariants.{Written, Refused}
 use Rattle.bits.proofs.Conds.{cond_eq, cond_ne}
 use Rattle.bits.proofs.Parts.{mid_last, put_last}
 use Rattle.tail_rules.specs.Encode.{tail_of, encode_answer, encode_leaves}
@@ -34,7 +34,7 @@ module _ (w : List ℕ) (e : length w ≡ 42) where
   encode_leaves_lem last q =
       put_last 28 w last ∙ ap (λ (l : List ℕ). take 28 w ++ l) (q ∙ ap (λ (l : List ℕ). tail_of (take 6 l)) (mid_last 28 w)) ∙ sym (cond_eq (length w) 42 _ _ e)
 
-  pub encode_answer_lem : Written ≡ encode_answer w
+  pub encode_answer_lem : (Ok tt) ≡ encode_answer w
   unfolding encode_answer
   encode_answer_lem = sym (cond_eq (length w) 42 _ _ e)
 
@@ -50,7 +50,7 @@ module _ (w : List ℕ) (e : length w ≡ 42) where
       ∙ sym (take-add 28 6 w)
 
 module _ (w : List ℕ) (h : ¬ (length w ≡ 42)) where
-  pub encode_size : Refused Size ≡ encode_answer w
+  pub encode_size : Err Size ≡ encode_answer w
   unfolding encode_answer
   encode_size = sym (cond_ne (length w) 42 _ _ h)
 

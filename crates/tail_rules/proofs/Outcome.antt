@@ -1,15 +1,15 @@
 -- The repair's answer, from its two halves: where the tail may be wrong, and what it is changed into there.
 -- Assumes nothing.
-use mathlib.Core.Bool.{Bool, true, false, false≢true}
 use mathlib.Core.List.{List, []}
-use mathlib.Core.Path.{◌≡◌, sym, ap, subst, ◌∙◌}
+use mathlib.Core.Path.{◌≡◌, refl, sym, ap, subst, ◌∙◌}
 use Prim.Native.Nat.{ℕ, ◌<◌, ◌≤◌}
 use native.Mathlib.Omega.{arith}
 use lib.ListN.{length, get_or}
+use Rattle.std.specs.declared.option.Option.TheVariants.{None, Some}
 use Rattle.bits.specs.Bit.{Bytes, tab}
 use Rattle.bits.proofs.Tabs.{tab_at}
-use Rattle.tail_rules.specs.Code.{syndrome, Codeword, wrong}
-use Rattle.tail_rules.specs.Steps.{Located, Corrected}
+use Rattle.tail_rules.specs.Code.{syndrome, Codeword, Near, wrong}
+use Rattle.tail_rules.specs.Steps.{Located, Corrected, MayDiffer}
 use Rattle.tail_rules.proofs.Loops.{wrong_self}
 use Rattle.tail_rules.specs.Repair.{refused, repaired, Repairs, repair_of}
 use Rattle.tail_rules.proofs.Searching.{is_repair}
@@ -32,21 +32,32 @@ module _ (es t s : List ℕ) (lt : length t ≡ 14) (ht : Bytes t) (fits : lengt
   )
 
   -- no places
-  pub lost : (ok : Bool) (w : List ℕ) → Located es s ok w → ok ≡ false → refused ≡ repair_of es t
+  pub lost : Located es s None → refused ≡ repair_of es t
   unfolding Repairs
-  lost ok w v e = is_repair es t ht lt refused (λ c near. false≢true (sym e ∙ (v.all t c lt ht syn near).0))
+  lost v = is_repair es t ht lt refused (λ c near. none (v.all t c lt ht syn near).1)
+    where
+      none : {w : List ℕ} → ¬ (None ≡ Some w)
+      none e = cc
 
-  module _ (ok : Bool) (w c after : List ℕ) (v : Located es s ok w) (yes-found : ok ≡ true) (k : Corrected t w c) (syn-after : after ≡ tab 6 (syndrome c)) where
+  module _ (w c after : List ℕ) (v : Located es s (Some w)) (k : Corrected t w c) (syn-after : after ≡ tab 6 (syndrome c)) where
+    within : (d : List ℕ) → Near es t d → MayDiffer w t d
+    within d near =
+        let m = v.all t d lt ht syn near in
+        let e : w ≡ m.0 = inside m.1 in
+        subst (λ (u : List ℕ). MayDiffer u t d) (sym e) m.2
+      where
+        inside : {u x : List ℕ} → Some u ≡ Some x → u ≡ x
+        inside e = cc
+
     -- the change does not lead to a codeword
     pub failed : ¬ ((i : ℕ) → i < 6 → get_or after i 0 ≡ 0) → refused ≡ repair_of es t
     unfolding Repairs
     failed h =
-        is_repair es t ht lt refused (λ d near.
-        h (zeros c after syn-after (subst Codeword (sym (k.only d near.code (v.all t d lt ht syn near).1)) near.code)))
+        is_repair es t ht lt refused (λ d near. h (zeros c after syn-after (subst Codeword (sym (k.only d near.code (within d near))) near.code)))
 
     pub repaired_to : (n : ℕ) → ((i : ℕ) → i < 6 → get_or after i 0 ≡ 0) → n ≡ wrong [] t c → repaired c n ≡ repair_of es t
     unfolding Repairs
     repaired_to n h e = is_repair es t ht lt (repaired c n) (
-      record { code = codeword c after k.long k.bytes syn-after h; close = v.close yes-found t c lt k.long k.within },
+      record { code = codeword c after k.long k.bytes syn-after h; close = v.close w refl t c lt k.long k.within },
       e,
     )

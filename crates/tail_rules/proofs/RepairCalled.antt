@@ -1,5 +1,6 @@
 -- What the calls answer and leave, way by way.
 -- Assumes nothing.
+use Rattle.std.proofs.Common.{Err}
 use mathlib.Core.Bool.{Bool, true, false, cond}
 use mathlib.Core.List.{List, ◌++◌}
 use mathlib.Core.Path.{◌≡◌, refl, sym, ap, ◌∙◌}
@@ -13,9 +14,8 @@ use Rattle.bits.specs.declared.Refusal.{Refusal}
 use Rattle.bits.specs.declared.Refusal.TheVariants.{Size, Erasure}
 use Rattle.bits.proofs.Conds.{cond_eq, cond_ne}
 use Rattle.bits.proofs.Parts.{mid_last, put_last}
-use Rattle.tail_rules.specs.declared.Repairing.TheVariants.{Repaired, Refused}
 use Rattle.tail_rules.specs.Repair.{Answer, refused, repaired, repair_of}
-use Rattle.tail_rules.specs.Calls.{erasable, answer_of, tail_in, written_over, tail_answer, tail_leaves, word_answer, word_leaves}
+use Rattle.tail_rules.specs.Calls.{erasable, answer_of, written_over, tail_answer, tail_leaves, word_answer, word_leaves}
 use Rattle.tail_rules.proofs.MakingCalled.{kept}
 
 -- ---- a lent tail
@@ -23,7 +23,7 @@ use Rattle.tail_rules.proofs.MakingCalled.{kept}
 module _ (es t : List ℕ) where
   -- of another size
   module _ (h : ¬ (length t ≡ 14)) where
-    pub answer_size : tail_answer es t ≡ Refused Size
+    pub answer_size : tail_answer es t ≡ Err Size
     unfolding tail_answer
     answer_size = cond_ne (length t) 14 _ _ h
 
@@ -33,9 +33,9 @@ module _ (es t : List ℕ) where
 
   module _ (h : length t ≡ 14) where
     -- with places that may not be erased
-    pub answer_erasure : erasable es ≡ false → tail_answer es t ≡ Refused Erasure
+    pub answer_erasure : erasable es ≡ false → tail_answer es t ≡ Err Erasure
     unfolding tail_answer
-    answer_erasure e = cond_eq (length t) 14 _ _ h ∙ ap (λ (b : Bool). cond b (answer_of (repair_of es t)) (Refused Erasure)) e
+    answer_erasure e = cond_eq (length t) 14 _ _ h ∙ ap (λ (b : Bool). cond b (answer_of (repair_of es t)) (Err Erasure)) e
 
     pub leaves_erasure : erasable es ≡ false → tail_leaves es t ≡ t
     unfolding tail_leaves
@@ -44,7 +44,7 @@ module _ (es t : List ℕ) where
     -- repaired or not
     pub answer_repair : erasable es ≡ true → tail_answer es t ≡ answer_of (repair_of es t)
     unfolding tail_answer
-    answer_repair e = cond_eq (length t) 14 _ _ h ∙ ap (λ (b : Bool). cond b (answer_of (repair_of es t)) (Refused Erasure)) e
+    answer_repair e = cond_eq (length t) 14 _ _ h ∙ ap (λ (b : Bool). cond b (answer_of (repair_of es t)) (Err Erasure)) e
 
     pub leaves_repair : erasable es ≡ true → tail_leaves es t ≡ written_over t (repair_of es t)
     unfolding tail_leaves
@@ -63,7 +63,7 @@ module _ (w : List ℕ) (e : length w ≡ 42) where
       put_last 28 w last ∙ ap (λ (l : List ℕ). take 28 w ++ l) (q ∙ ap (tail_leaves es) (mid_last 28 w)) ∙ sym (cond_eq (length w) 42 _ _ e)
 
 module _ (w : List ℕ) (h : ¬ (length w ≡ 42)) where
-  pub word_size : (es : List ℕ) → Refused Size ≡ word_answer es w
+  pub word_size : (es : List ℕ) → Err Size ≡ word_answer es w
   unfolding word_answer
   word_size es = sym (cond_ne (length w) 42 _ _ h)
 
@@ -81,10 +81,6 @@ word_front es w = go (ℕ_discrete (length w) 42)
 
 -- ---- from a repair by value
 
-pub written_found : (t : List ℕ) (a : Answer) (n : ℕ) → Repaired n ≡ answer_of a → tail_in a ≡ written_over t a
-written_found t refused n e = absurd (let z : ◌≡◌ {A = ℕ} 0 1 = cc in omega arith)
-written_found t (repaired c m) n e = refl
-
-pub written_refused : (t : List ℕ) (a : Answer) (r : Refusal) → Refused r ≡ answer_of a → written_over t a ≡ t
+pub written_refused : (t : List ℕ) (a : Answer) (r : Refusal) → Err r ≡ answer_of a → written_over t a ≡ t
 written_refused t refused r e = refl
 written_refused t (repaired c m) r e = absurd (let z : ◌≡◌ {A = ℕ} 0 1 = cc in omega arith)

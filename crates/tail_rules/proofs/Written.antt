@@ -1,12 +1,12 @@
 -- Arrays written out element by element.
 -- Assumes nothing.
 use mathlib.Core.List.{List, [], ◌∷◌, ◌++◌}
-use mathlib.Core.Path.{◌≡◌, refl, sym, ap, ap₂, ◌∙◌}
-use Prim.Native.Nat.{ℕ, ◌+◌, ◌/◌, ◌%◌, ◌<◌}
-use native.Mathlib.Nat.{mod-eq_of_lt}
+use mathlib.Core.Path.{◌≡◌, refl, ap, ap₂, ◌∙◌}
+use Prim.Native.Nat.{ℕ, ◌+◌}
 use native.Mathlib.Omega.{arith}
 use lib.Bits.{bit_xor}
 use lib.ListN.{length, get_or, length-append}
+use Rattle.std.specs.Int.{w16, to_be_bytes}
 use Rattle.bits.specs.Bit.{tab, Bytes}
 use Rattle.bits.specs.BigEndian.{big_endian}
 use Rattle.bits.proofs.Belows.{below_none, below_cons}
@@ -17,12 +17,9 @@ use Rattle.tail_rules.specs.Encode.{generator_of, plus, registered, with_crc}
 
 -- ---- two bytes, high byte first
 
-pub two_bytes : (q : ℕ) → q < 65536 → q / 256 ∷ q % 256 ∷ [] ≡ big_endian 2 q
+pub two_bytes : (q : ℕ) → to_be_bytes w16 q ≡ big_endian 2 q
 unfolding big_endian
-two_bytes q l = ap (λ (x : ℕ). x ∷ q % 256 ∷ []) (sym (mod-eq_of_lt high))
-  where
-    high : q / 256 < 256
-    high = omega arith
+two_bytes q = refl
 
 pub length_two : (q : ℕ) → length (big_endian 2 q) ≡ 2
 unfolding big_endian
@@ -53,13 +50,9 @@ registered_is r g f a1 a2 a3 a4 a5 a6 lr eg e1 e2 e3 e4 e5 e6 =
     at : (i : ℕ) → product f (get_or g i 0) ≡ product f (get_or generator_of i 0)
     at i = ap (λ (l : List ℕ). product f (get_or l i 0)) eg
 
-pub joined_is : (d r : List ℕ) → length d ≡ 8 → length r ≡ 6
-    → get_or d 0 0 ∷ get_or d 1 0 ∷ get_or d 2 0 ∷ get_or d 3 0 ∷ get_or d 4 0 ∷ get_or d 5 0 ∷ get_or d 6 0 ∷ get_or d 7 0
-    ∷ get_or r 0 0 ∷ get_or r 1 0 ∷ get_or r 2 0 ∷ get_or r 3 0 ∷ get_or r 4 0 ∷ get_or r 5 0 ∷ [] ≡ d ++ r
+pub crc_is : (d : List ℕ) (q : ℕ) (bs : List ℕ) → length d ≡ 6 → bs ≡ to_be_bytes w16 q → q ≡ crc_of d
+    → get_or d 0 0 ∷ get_or d 1 0 ∷ get_or d 2 0 ∷ get_or d 3 0 ∷ get_or d 4 0 ∷ get_or d 5 0 ∷ get_or bs 0 0 ∷ get_or bs 1 0 ∷ [] ≡ with_crc d
 unfolding tab
-joined_is d r ld lr = ap₂ (λ (a b : List ℕ). a ++ b) (tab_self d 8 ld) (tab_self r 6 lr)
-
-pub crc_is : (d : List ℕ) (q : ℕ) → length d ≡ 6 → q < 65536 → q ≡ crc_of d
-    → get_or d 0 0 ∷ get_or d 1 0 ∷ get_or d 2 0 ∷ get_or d 3 0 ∷ get_or d 4 0 ∷ get_or d 5 0 ∷ q / 256 ∷ q % 256 ∷ [] ≡ with_crc d
-unfolding tab
-crc_is d q ld l e = ap₂ (λ (a b : List ℕ). a ++ b) (tab_self d 6 ld) (two_bytes q l ∙ ap (big_endian 2) e)
+crc_is d q bs ld p e =
+    ap (λ (l : List ℕ). get_or d 0 0 ∷ get_or d 1 0 ∷ get_or d 2 0 ∷ get_or d 3 0 ∷ get_or d 4 0 ∷ get_or d 5 0 ∷ get_or l 0 0 ∷ get_or l 1 0 ∷ []) p
+    ∙ ap₂ (λ (a b : List ℕ). a ++ b) (tab_self d 6 ld) (two_bytes q ∙ ap (big_endian 2) e)

@@ -1,13 +1,12 @@
 -- Document 01, 'Coding': 'Word bytes 28 to 33 are followed by their CRC-16 (high byte first) and six parity bytes.'
 -- Assumes nothing.
-use Rattle.std.specs.Prelude.{cond, List, [], ◌∷◌, ◌++◌, map, ℕ, zero, suc, eqb, length, get_or, take, drop, replicate}
+use Rattle.std.specs.Prelude.{cond, List, [], ◌∷◌, ◌++◌, map, ℕ, zero, suc, eqb, length, get_or, take, drop, replicate, Result, Ok, Err}
 use Rattle.std.specs.Int.Bits.{bit_xor}
 use Rattle.bits.specs.BigEndian.{big_endian}
 use Rattle.bits.specs.declared.Refusal.TheVariants.{Size}
-use Rattle.bits.specs.declared.Writing.{Writing}
-use Rattle.bits.specs.declared.Writing.TheVariants.{Written, Refused}
 use Rattle.coding_rules.specs.Crc.{crc_of}
 use Rattle.field_rules.specs.Field.{product, power}
+use Rattle.bits.specs.declared.Refusal.{Refusal}
 
 -- ---- the generator
 
@@ -55,8 +54,8 @@ tail_of d = with_crc d ++ parity_of (with_crc d)
 
 -- ---- the call: the tail of a lent word made from its bytes 28 to 33
 
-unfoldable pub encode_answer : List ℕ → Writing
-encode_answer w = cond (eqb (length w) 42) Written (Refused Size)
+unfoldable pub encode_answer : List ℕ → Result Unit Refusal
+encode_answer w = cond (eqb (length w) 42) (Ok tt) (Err Size)
 
 unfoldable pub encode_leaves : List ℕ → List ℕ
 encode_leaves w = cond (eqb (length w) 42) (take 28 w ++ tail_of (take 6 (drop 28 w))) w

@@ -1,12 +1,11 @@
 -- What holds of the definitions: the repair means what document 01 says.
 -- Assumes nothing.
-use Rattle.std.specs.Prelude.{◌≡◌, true, false, List, [], ℕ, ◌≤◌, length, take}
+use Rattle.std.specs.Prelude.{◌≡◌, true, false, List, [], ℕ, ◌≤◌, length, take, Ok, Err}
 use Rattle.bits.specs.Bit.{Bytes}
 use Rattle.bits.specs.Refusals.{number_of}
 use Rattle.bits.specs.declared.Refusal.{Refusal}
 use Rattle.bits.specs.declared.Refusal.TheVariants.{Size, Erasure, Tail}
 use Rattle.tail_rules.specs.Code.{Codeword, wrong, Near}
-use Rattle.tail_rules.specs.declared.Repairing.TheVariants.{Repaired, Refused}
 use Rattle.tail_rules.specs.Repair.{Answer, repaired, Repairs, repair_of}
 use Rattle.tail_rules.specs.Calls.{erasable, NotErasable, tail_answer, tail_leaves, word_leaves}
 
@@ -22,7 +21,7 @@ pub record RepairLaws : Type 0 where
   pub clean : (es c : List ℕ) → length es ≤ 6 → Codeword c → repair_of es c ≡ repaired c 0
   -- a near codeword is found: it is written, and the count is the number of bytes in which it differs
   pub found : (es t c : List ℕ) → length t ≡ 14 → Bytes t → erasable es ≡ true → Near es t c
-      → (tail_answer es t ≡ Repaired (wrong [] t c)) × (tail_leaves es t ≡ c)
+      → (tail_answer es t ≡ Ok (wrong [] t c)) × (tail_leaves es t ≡ c)
   -- with nothing erased, near is: at most three bytes are wrong
   pub three : (t c : List ℕ) → Codeword c → wrong [] t c ≤ 3 → Near [] t c
   -- SIX ERASURES PROVE NOTHING: with six places erased each tail whatever has a codeword near it, so that this repair never refuses
@@ -31,7 +30,7 @@ pub record RepairLaws : Type 0 where
   pub not_erasable : (es : List ℕ) → erasable es ≡ false → NotErasable es
   pub erasable_not : (es : List ℕ) → NotErasable es → erasable es ≡ false
   -- a refused call leaves what it was lent
-  pub unwritten : (es t : List ℕ) (r : Refusal) → tail_answer es t ≡ Refused r → tail_leaves es t ≡ t
+  pub unwritten : (es t : List ℕ) (r : Refusal) → tail_answer es t ≡ Err r → tail_leaves es t ≡ t
   -- bytes 0 to 27 of a word are kept
   pub front : (es w : List ℕ) → take 28 (word_leaves es w) ≡ take 28 w
   -- document 01's numbers

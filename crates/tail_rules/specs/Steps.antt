@@ -1,10 +1,12 @@
 -- What each step of the repair promises the next: lists of bytes, rows of the system, and the two halves of the repair.
 -- A reader need not believe these: they are met by the code and used up in the proof that the repair answers what Code.antt says.
 -- Assumes nothing.
-use Rattle.std.specs.Prelude.{List, [], ◌∷◌, ◌≡◌, Bool, true, cond, ℕ, zero, suc, ◌+◌, ◌*◌, ◌-◌, ◌<◌, ◌≤◌, get_or, length, replicate, eqb}
+use Rattle.std.specs.Prelude.{List, [], ◌∷◌, ◌≡◌, cond, ℕ, zero, suc, ◌+◌, ◌*◌, ◌-◌, ◌<◌, ◌≤◌, get_or, length, map, replicate, eqb}
+use Rattle.std.specs.declared.option.Option.{Option}
+use Rattle.std.specs.declared.option.Option.TheVariants.{None, Some}
 use Rattle.std.specs.Int.Bits.{bit_xor}
 use Rattle.bits.specs.Bit.{tab, Bytes}
-use Rattle.field_rules.specs.Field.{product, quotient, power}
+use Rattle.field_rules.specs.Field.{product, quotient, power, add_scaled}
 use Rattle.tail_algebra.proofs.Bytes.{Byte, gf}
 use Rattle.tail_algebra.proofs.Low.{lo, mat}
 use Rattle.tail_algebra.proofs.Elimination.{Solves, Units}
@@ -45,16 +47,9 @@ added_at (suc x ∷ xs) (b ∷ bs) y = b ∷ added_at xs bs y
 
 -- ---- rows
 
--- a + k b
-unfoldable pub add_scaled : List ℕ → ℕ → List ℕ → List ℕ
-add_scaled [] k b = []
-add_scaled (x ∷ xs) k [] = x ∷ xs
-add_scaled (x ∷ xs) k (y ∷ ys) = bit_xor x (product k y) ∷ add_scaled xs k ys
-
 -- a row scaled
-unfoldable pub scale_by : ℕ → List ℕ → List ℕ
-scale_by k [] = []
-scale_by k (x ∷ xs) = product k x ∷ scale_by k xs
+abbrev pub scale_by : ℕ → List ℕ → List ℕ
+scale_by k row = map (λ x. product k x) row
 
 abbrev pub entry : List (List ℕ) → ℕ → ℕ → ℕ
 entry m r c = get_or (get_or m r []) c 0
@@ -89,11 +84,10 @@ pub record SwappedRows (m : List (List ℕ)) (i j : ℕ) (r : List (List ℕ)) :
   pub second : get_or r j [] ≡ get_or m i []
   pub rest : (k : ℕ) → ¬ (k ≡ i) → ¬ (k ≡ j) → get_or r k [] ≡ get_or m k []
 
--- the first row from col on whose entry at col is not zero; count where there is none
-pub record PivotAt (m : List (List ℕ)) (col count r : ℕ) : Type 0 where
-  pub from : col ≤ r
-  pub live : r < count → ¬ (entry m r col ≡ 0)
-  pub dead : count ≤ r → (k : ℕ) → col ≤ k → k < count → entry m k col ≡ 0
+-- the first row from col on whose entry at col is not zero
+pub record PivotAt (m : List (List ℕ)) (col count : ℕ) (found : Option ℕ) : Type 0 where
+  pub live : (r : ℕ) → found ≡ Some r → (col ≤ r) × (r < count) × ¬ (entry m r col ≡ 0)
+  pub dead : found ≡ None → (k : ℕ) → col ≤ k → k < count → entry m k col ≡ 0
 
 -- rows of seven bytes
 pub record Rows (count : ℕ) (m : List (List ℕ)) : Type 0 where
@@ -133,12 +127,12 @@ pub record Solved (count : ℕ) (m : List (List ℕ)) (y : List ℕ) : Type 0 wh
 pub record MayDiffer (w t c : List ℕ) : Type 0 where
   pub same : (p : ℕ) → p < 14 → ¬ (get_or w p 0 ≡ 0) → get_or c p 0 ≡ get_or t p 0
 
--- where a word with the syndromes s and the places es erased may be wrong
-pub record Located (es s : List ℕ) (ok : Bool) (w : List ℕ) : Type 0 where
-  pub long : length w ≡ 14
-  pub few : ok ≡ true → length (exponents_of w) ≤ 6
-  pub close : ok ≡ true → (t c : List ℕ) → length t ≡ 14 → length c ≡ 14 → MayDiffer w t c → 2 * wrong es t c + length es ≤ 6
-  pub all : (t c : List ℕ) → length t ≡ 14 → Bytes t → s ≡ tab 6 (syndrome t) → Near es t c → (ok ≡ true) × MayDiffer w t c
+-- where a word with the syndromes s and the places es erased may be wrong; nothing is found only where it has no repair
+pub record Located (es s : List ℕ) (found : Option (List ℕ)) : Type 0 where
+  pub long : (w : List ℕ) → found ≡ Some w → length w ≡ 14
+  pub few : (w : List ℕ) → found ≡ Some w → length (exponents_of w) ≤ 6
+  pub close : (w : List ℕ) → found ≡ Some w → (t c : List ℕ) → length t ≡ 14 → length c ≡ 14 → MayDiffer w t c → 2 * wrong es t c + length es ≤ 6
+  pub all : (t c : List ℕ) → length t ≡ 14 → Bytes t → s ≡ tab 6 (syndrome t) → Near es t c → (w : List ℕ) × (found ≡ Some w) × MayDiffer w t c
 
 -- t changed at those places: into the one codeword that differs from t there alone, if there is one
 pub record Corrected (t w r : List ℕ) : Type 0 where

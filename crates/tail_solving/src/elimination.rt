@@ -1,140 +1,89 @@
 // Solves by Gauss-Jordan on the fixed six rows of seven bytes, a system that with zeros on the right has only zero as its solution: a pivot is always there.
-ghost use Rattle.std.specs.Prelude.{◌≡◌, ◌<◌, ◌≤◌};
-ghost use Rattle.field.specs.Lent.{Powers, Logs};
-ghost use Rattle.tail_rules.specs.Steps.{add_scaled, scale_by, ScaledRow, ClearedBy, SwappedRows, PivotAt, Rows, Regular, HasPivot, Eliminated, ColumnOf, Solved};
+ghost use Rattle.std.specs.Prelude.{◌≡◌, ◌<◌, ◌≤◌, get_or};
+ghost use Rattle.field_rules.specs.Field.{quotient, add_scaled};
+ghost use Rattle.tail_rules.specs.Steps.{scale_by, ClearedBy, SwappedRows, PivotAt, Rows, Regular, HasPivot, Eliminated, ColumnOf, Solved};
 
+use field::Tables;
+
+// kept: the rows, a column and the count stay parameters below, since the proof does not close: rows of rows in a field can neither be stored nor lent one by one.
 // Adds k times row b to row a.
-fn add_scaled(
-    powers: &field::PowerTable,
-    logs: &field::LogTable,
-    a: [u8; 7],
-    k: u8,
-    b: [u8; 7],
-) -> [u8; 7]
-    requires fact_1 { Powers powers.now }
-    requires fact_2 { Logs logs.now }
+fn add_scaled(tables: &Tables, a: [u8; 7], k: u8, b: [u8; 7]) -> [u8; 7]
     ensures { result ≡ add_scaled a k b }
 {
     let mut out = a;
-    let mut i: usize = 0;
-    while i < 7 {
-        out[i] = a[i] ^ field::product_by(powers, logs, k, b[i]);
-        i += 1;
-    }
+    tables.add_multiple(&mut out, k, &b);
     out
 }
 
-// Multiplies a row by k.
-fn scaled(powers: &field::PowerTable, logs: &field::LogTable, k: u8, a: [u8; 7]) -> [u8; 7]
-    requires fact_1 { Powers powers.now }
-    requires fact_2 { Logs logs.now }
-    ensures { result ≡ scale_by k a }
+// Divides a row by its entry at `col`, which becomes 1.
+fn divided(tables: &Tables, row: [u8; 7], col: usize) -> [u8; 7]
+    requires { col < 7 }
+    ensures byte { get_or row col 0 < 256 }
+    ensures row { result ≡ scale_by (quotient 1 (get_or row col 0)) row }
 {
-    let mut out = a;
-    let mut i: usize = 0;
-    while i < 7 {
-        out[i] = field::product_by(powers, logs, k, a[i]);
-        i += 1;
+    let k = tables.quotient(1, row[col]);
+    let mut out = row;
+    // A loop, since `map` of an array executes more instructions.
+    for i in 0..7 {
+        out[i] = tables.product(k, row[i]);
     }
     out
 }
 
-// Finds the first row from `col` on whose entry at `col` is not 0, or gives `count` where there is none.
-fn pivot(m: [[u8; 7]; 6], col: usize, count: usize) -> usize
+// Finds the first row from `col` on whose entry at `col` is not 0.
+fn pivot(m: [[u8; 7]; 6], col: usize, count: usize) -> Option<usize>
     requires fact_1 { col < 6 }
     requires fact_2 { count ≤ 6 }
     ensures { PivotAt m col count result }
 {
-    let mut i = col;
-    while i < count {
-        let row = m[i];
-        if row[col] != 0 {
-            return i;
+    for i in col..count {
+        if m[i][col] != 0 {
+            return Some(i);
         }
-        i += 1;
     }
-    i
+    None
 }
 
 // Swaps rows i and j.
-fn swap(m: [[u8; 7]; 6], i: usize, j: usize) -> [[u8; 7]; 6]
+fn swapped(m: [[u8; 7]; 6], i: usize, j: usize) -> [[u8; 7]; 6]
     requires fact_1 { i < 6 }
     requires fact_2 { j < 6 }
     ensures { SwappedRows m i j result }
 {
-    let a = m[i];
-    let b = m[j];
     let mut out = m;
-    out[i] = b;
-    out[j] = a;
-    out
-}
-
-// Divides row `col` by its entry at `col`, which becomes 1.
-fn unit_row(
-    powers: &field::PowerTable,
-    logs: &field::LogTable,
-    m: [[u8; 7]; 6],
-    col: usize,
-) -> [[u8; 7]; 6]
-    requires fact_1 { Powers powers.now }
-    requires fact_2 { Logs logs.now }
-    requires fact_3 { col < 6 }
-    ensures { ScaledRow m col result }
-{
-    let row = m[col];
-    let mut out = m;
-    let x = bits::byte(row[col]);
-    out[col] = scaled(powers, logs, field::quotient_by(powers, logs, 1, x), row);
+    out.swap(i, j);
     out
 }
 
 // Clears column `col` in every other row: adds to each a multiple of row `col`.
-fn clear(
-    powers: &field::PowerTable,
-    logs: &field::LogTable,
-    m: [[u8; 7]; 6],
-    col: usize,
-    count: usize,
-) -> [[u8; 7]; 6]
-    requires fact_1 { Powers powers.now }
-    requires fact_2 { Logs logs.now }
-    requires fact_3 { col < 6 }
-    requires fact_4 { count ≤ 6 }
+fn clear(tables: &Tables, m: [[u8; 7]; 6], col: usize, count: usize) -> [[u8; 7]; 6]
+    requires fact_1 { col < 6 }
+    requires fact_2 { count ≤ 6 }
     ensures { ClearedBy m col count result }
 {
     let pivot = m[col];
     let mut out = m;
-    let mut i: usize = 0;
-    while i < count {
+    for i in 0..count {
         if i != col {
             let row = m[i];
-            out[i] = add_scaled(powers, logs, row, row[col], pivot);
+            out[i] = add_scaled(tables, row, row[col], pivot);
         }
-        i += 1;
     }
     out
 }
 
 // Turns column `col` into a column of the unit matrix; the solutions stay.
-fn eliminated(
-    powers: &field::PowerTable,
-    logs: &field::LogTable,
-    m: [[u8; 7]; 6],
-    col: usize,
-    count: usize,
-) -> [[u8; 7]; 6]
-    requires fact_1 { Powers powers.now }
-    requires fact_2 { Logs logs.now }
-    requires fact_3 { (col < count) × (count ≤ 6) }
-    requires fact_4 { Rows count m }
-    requires fact_5 { HasPivot count col m }
+fn eliminated(tables: &Tables, m: [[u8; 7]; 6], col: usize, count: usize) -> [[u8; 7]; 6]
+    requires fact_1 { (col < count) × (count ≤ 6) }
+    requires fact_2 { Rows count m }
+    requires fact_3 { HasPivot count col m }
     ensures { Eliminated count col m result }
 {
-    let i = pivot(m, col, count);
-    let a = swap(m, col, i);
-    let b = unit_row(powers, logs, a, col);
-    clear(powers, logs, b, col, count)
+    let i = pivot(m, col, count).unwrap();
+    let mut a = swapped(m, col, i);
+    let unit = divided(tables, a[col], col);
+    a[col] = unit;
+    clear(tables, a, col, count)
 }
 
 // Collects the right-hand sides of the first `count` rows.
@@ -143,35 +92,25 @@ fn right_sides(m: [[u8; 7]; 6], count: usize) -> [u8; 6]
     ensures { ColumnOf count m result }
 {
     let mut out = [0u8; 6];
-    let mut i: usize = 0;
-    while i < count {
+    for i in 0..count {
         let row = m[i];
+        // kept: `bits::byte`, since an element of an array of arrays comes without its bound (tried: `m[i][count]`, a row by value, a row lent).
         out[i] = bits::byte(row[count]);
-        i += 1;
     }
     out
 }
 
 // Solves a regular system of `count` rows: once its columns are those of the unit matrix, the right-hand sides are the solution.
-pub fn solve(
-    powers: &field::PowerTable,
-    logs: &field::LogTable,
-    m: [[u8; 7]; 6],
-    count: usize,
-) -> [u8; 6]
-    requires fact_1 { Powers powers.now }
-    requires fact_2 { Logs logs.now }
-    requires fact_3 { count ≤ 6 }
-    requires fact_4 { Rows count m }
-    requires fact_5 { Regular count m }
+pub fn solve(tables: &Tables, m: [[u8; 7]; 6], count: usize) -> [u8; 6]
+    requires fact_1 { count ≤ 6 }
+    requires fact_2 { Rows count m }
+    requires fact_3 { Regular count m }
     ensures { Solved count m result }
 {
     let mut a = m;
-    let mut col: usize = 0;
-    while col < count {
-        let next = eliminated(powers, logs, a, col, count);
+    for col in 0..count {
+        let next = eliminated(tables, a, col, count);
         a = next;
-        col += 1;
     }
     right_sides(a, count)
 }

@@ -1,14 +1,14 @@
 -- One of two streams: steps go through what is read of it, a piece more and a step more.
 -- Assumes nothing.
-use mathlib.Core.Path.{◌≡◌, refl, sym, ap, ap₂, ◌∙◌, subst}
+use mathlib.Core.Path.{◌≡◌, refl, sym, ap, ◌∙◌, subst}
 use mathlib.Core.Bool.{Bool, true, false, true≢false}
 use mathlib.Core.List.{List, [], ◌∷◌, ◌++◌, append_assoc, append-nil}
-use Prim.Native.Nat.{ℕ, ◌+◌, ◌≤◌}
+use Prim.Native.Nat.{ℕ, ◌≤◌}
 use native.Mathlib.Omega.{arith}
 use lib.ListN.{length, drop, length-append}
 use lib.Seq.{drop-append-le}
 use Rattle.intake.proofs.Hearing.{dibits_append}
-use Rattle.merge_recorder_rules.specs.Calls.{Lent, dibits_in, MergeCalled, Next, MergeThrough, merge_rest}
+use Rattle.merge_recorder_rules.specs.Calls.{dibits_in, MergeCalled, Next, MergeThrough, merge_rest}
 use Rattle.recorder_rules.specs.Steps.{dibits_of}
 use Rattle.sync_rules.specs.State.{Input}
 use Rattle.task_merge.specs.Heard.{Side, primary_side, alternate_side, OneThrough, StillOpen, Followed}

@@ -1,7 +1,7 @@
 -- What the loop of `merge` keeps, from the start on, over a read of either stream and over a step.
 -- Assumes nothing.
 use mathlib.Core.Path.{◌≡◌, refl, sym, ap, ◌∙◌, subst}
-use mathlib.Core.Logic.{◌⊎◌, ⊎_elim}
+use mathlib.Core.Logic.{⊎_elim}
 use mathlib.Core.Bool.{Bool, true, false, not, true≢false}
 use mathlib.Core.List.{List, [], ◌∷◌, ◌++◌}
 use Prim.Native.Nat.{ℕ, ◌+◌, ◌*◌, ◌-◌, ◌≤◌, min}
@@ -13,9 +13,9 @@ use lib.Seq.{length-sets, length-take-le}
 use Rattle.intake.specs.Pieces.{cursor_at, is_on, going_beside, SoundCursor, NewPiece, RefilledBy}
 use Rattle.intake.specs.declared.Cursor.{Cursor}
 use Rattle.intake.specs.declared.Going.{Going}
-use Rattle.intake.specs.declared.Going.TheVariants.{On, Ended, Broken}
+use Rattle.intake.specs.declared.Going.TheVariants.{On}
 use Rattle.intake.proofs.Hearing.{used_up}
-use Rattle.merge_recorder_rules.specs.Calls.{Lent, dibits_in, MergeCalled, MergeMeets, MergeHistory, merge_state, merge_rest}
+use Rattle.merge_recorder_rules.specs.Calls.{dibits_in, MergeCalled, MergeMeets, MergeHistory, merge_state, merge_rest}
 use Rattle.merge_recorder_rules.specs.Statements.{MergeFresh}
 use Rattle.merge_recorder_rules.specs.Steps.{available_of, ValidMerge, MergeSteppedBy, MergeFlushedBy}
 use Rattle.merge_recorder_rules.specs.declared.MergeRecorder.{MergeRecorder}
@@ -23,11 +23,9 @@ use Rattle.merge_recorder_rules.specs.declared.MergeStepped.{MergeStepped}
 use Rattle.recorder_rules.proofs.Passing.{dibits_on}
 use Rattle.recorder_rules.specs.Makings.{Trying}
 use Rattle.recorder_rules.specs.Steps.{dibits_of}
-use Rattle.sync_inputs.proofs.Inputs.{length_packed}
-use Rattle.sync_inputs.specs.Inputs.{unpacked}
 use Rattle.sync_rules.specs.State.{Input}
-use Rattle.task_merge.specs.Heard.{Side, primary_side, alternate_side, OneThrough, StillOpen, Followed, BothHeard, rest_in, BothHearing}
-use Rattle.task_merge.proofs.Following.{Within, AllWithin, followed_read, followed_step}
+use Rattle.task_merge.specs.Heard.{Side, primary_side, alternate_side, OneThrough, StillOpen, Followed, rest_in, BothHearing}
+use Rattle.task_merge.proofs.Following.{AllWithin, followed_read, followed_step}
 
 -- ---- what a step that was met uses
 

@@ -1,10 +1,9 @@
 -- What the loop of `merge` keeps: the dibits of both streams handed to the recorder so far are exactly those of the bytes read so far, but for the rest of
 -- each piece.
 -- Assumes nothing.
-use Rattle.std.specs.Prelude.{◌≡◌, Bool, true, false, not, List, [], ◌∷◌, ℕ, take, drop}
+use Rattle.std.specs.Prelude.{◌≡◌, Bool, true, false, List, [], ◌∷◌, ℕ, take, drop}
 use Rattle.intake.specs.Pieces.{SoundCursor, is_on}
 use Rattle.intake.specs.declared.Cursor.{Cursor}
-use Rattle.intake.specs.declared.Going.{Going}
 use Rattle.merge_recorder_rules.specs.Calls.{Lent, MergeCalled, MergeHistory, merge_state, Next, merge_rest}
 use Rattle.merge_recorder_rules.specs.Statements.{MergeFresh}
 use Rattle.merge_recorder_rules.specs.Steps.{ValidMerge}

@@ -23,20 +23,14 @@ pub struct Merged {
     pub recorder: MergeRecorder,
 }
 
-// Tells whether two streams go on: one of them does, and none broke off.
-fn both_go_on(one: Going, two: Going) -> bool {
-    if is_broken(one) {
-        return false;
-    }
-    if is_broken(two) {
-        return false;
-    }
-    goes_on(one) || goes_on(two)
-}
-
 // Tells whether one of two streams broke off.
 fn one_broken(one: Going, two: Going) -> bool {
     is_broken(one) || is_broken(two)
+}
+
+// Tells whether two streams go on: one of them does, and none broke off.
+fn both_go_on(one: Going, two: Going) -> bool {
+    !one_broken(one, two) && (goes_on(one) || goes_on(two))
 }
 
 // Makes a step with what is left of the pieces of both streams, of which the cursors tell.
@@ -55,27 +49,21 @@ fn step_both(
     ensures met { MergeSteppedBy (tried_of table.now) out.old out.new (rest_in first.now one) (not (is_on one.going)) (rest_in second.now two) (not (is_on two.going)) r result }
     ensures valid { ValidMerge result.next }
 {
-    let m = one.size;
-    let n = two.size;
-    let here = one.going;
-    let there = two.going;
-    let over = !goes_on(here);
-    let ended = !goes_on(there);
     step(
         r,
         table,
-        &first[..m],
+        &first[..one.size],
         one.from,
-        over,
-        &second[..n],
+        !goes_on(one.going),
+        &second[..two.size],
         two.from,
-        ended,
+        !goes_on(two.going),
         out,
     )
 }
 
-// Goes through two whole recordings and writes the records of what is ready. A proved loop has to end, and nothing says that the input does: the loop counts
-// its turns down, from a number that no run uses up.
+// Goes through two whole recordings and writes the records of what is ready. A proved loop has to end, and nothing says that the input does: the loop has
+// more turns than any run uses up.
 fn every_dibit<P: Read, A: Read, W: Write, E: Write, C: Clock>(
     table: &[u8],
     primary: &mut P,
@@ -90,28 +78,20 @@ fn every_dibit<P: Read, A: Read, W: Write, E: Write, C: Clock>(
     let mut first = io::buffer();
     let mut second = io::buffer();
     let mut out = [0u8; 8192];
-    let mut turns = u64::MAX;
-    while turns > 0 {
+    for _ in 0..u64::MAX {
         one = refilled(one, primary, &mut first, desk);
         two = refilled(two, alternate, &mut second, desk);
-        let here = one.going;
-        let there = two.going;
-        if both_go_on(here, there) {
-            let a = step_both(r, table, one, &first, two, &second, &mut out);
-            let size = a.size;
-            let written = write_whole(&out[..size], desk);
-            one = beside(one, a.used, written);
-            two = beside(two, a.used, written);
-            r = a.next;
-            turns -= 1;
-        } else {
-            turns = 0;
+        if !both_go_on(one.going, two.going) {
+            break;
         }
+        let a = step_both(r, table, one, &first, two, &second, &mut out);
+        let written = write_whole(&out[..a.size], desk);
+        one = beside(one, a.used, written);
+        two = beside(two, a.used, written);
+        r = a.next;
     }
-    let here = one.going;
-    let there = two.going;
     Merged {
-        broken: one_broken(here, there),
+        broken: one_broken(one.going, two.going),
         recorder: r,
     }
 }
@@ -124,16 +104,9 @@ fn say_left_out<W: Write, E: Write, C: Clock>(
     refused: u64,
     desk: &mut Desk<W, E, C>,
 ) {
-    if late == 0 {
-        if double == 0 {
-            if passed == 0 {
-                if refused == 0 {
-                    return;
-                }
-            }
-        }
+    if late != 0 || double != 0 || passed != 0 || refused != 0 {
+        texts_printing::print_error(lines::left_out_line(late, double, passed, refused), desk);
     }
-    texts_printing::print_error(lines::left_out_line(late, double, passed, refused), desk);
 }
 
 // Writes the records of what still waits when both recordings have ended, and says how many frames are not in the journal.
@@ -142,17 +115,13 @@ fn finish<W: Write, E: Write, C: Clock>(r: MergeRecorder, desk: &mut Desk<W, E, 
 {
     let mut out = [0u8; 8192];
     let a = flush(r, &mut out);
-    let size = a.size;
-    if write_whole(&out[..size], desk) {
-        let next = a.next;
-        let work = next.work;
-        let answered = work.answered;
-        let gone = work.gone;
+    if write_whole(&out[..a.size], desk) {
+        let work = a.next.work;
         say_left_out(
-            answered.late,
-            answered.double,
-            gone.passed,
-            answered.refused,
+            work.answered.late,
+            work.answered.double,
+            work.gone.passed,
+            work.answered.refused,
             desk,
         );
     }
@@ -169,8 +138,7 @@ pub fn merge<P: Read, A: Read, W: Write, E: Write, C: Clock>(
 {
     let merged = every_dibit(table, primary, alternate, desk);
     if !merged.broken {
-        let recorder = merged.recorder;
-        finish(recorder, desk);
+        finish(merged.recorder, desk);
     }
     merged
 }

@@ -13,18 +13,11 @@ use std::rt::Clock;
 use texts_printing::print;
 
 // How many records, frames and gaps were printed.
-#[derive(Clone, Copy)]
+#[derive(Clone, Copy, Debug, PartialEq, Eq)]
 pub struct Printed {
     pub records: u64,
     pub frames: u64,
     pub gaps: u64,
-}
-
-// What was printed so far, and whether to go on.
-#[derive(Clone, Copy)]
-struct Tally {
-    go: bool,
-    printed: Printed,
 }
 
 // Counts a record as a frame or a gap; what is no record is not counted.
@@ -38,79 +31,60 @@ fn counted(p: Printed, what: What) -> Printed
         What::AFrame => Printed {
             records: p.records + 1,
             frames: p.frames + 1,
-            gaps: p.gaps,
+            ..p
         },
         What::AGap => Printed {
             records: p.records + 1,
-            frames: p.frames,
             gaps: p.gaps + 1,
+            ..p
         },
         What::NoRecord => p,
     }
 }
 
-// Tells whether a record came, so that another one may follow.
-fn is_record(what: What) -> bool {
-    match what {
-        What::AFrame => true,
-        What::AGap => true,
-        What::NoRecord => false,
-    }
-}
-
-// Prints the line of a record, what the input holds of it, and says whether to go on: not behind what is no record, nor where its line could not be written.
+// Prints the line of a record, what the input holds of it, and counts it. Says whether to go on: not behind what is no record, nor where its line could not be
+// written.
 fn show_bytes<W: Write, E: Write, C: Clock>(
     record: &[u8],
-    p: Printed,
+    p: &mut Printed,
     desk: &mut Desk<W, E, C>,
-) -> Tally
-    requires fact_1 { Counts p }
-    requires fact_2 { p.records + 1 < 2 ^ 64 }
-    ensures counts { Counts result.printed }
-    ensures few { result.printed.records ≤ p.records + 1 }
+) -> bool
+    requires fact_1 { Counts p.old }
+    requires fact_2 { p.old.records + 1 < 2 ^ 64 }
+    ensures counts { Counts p.new }
+    ensures few { p.new.records ≤ p.old.records + 1 }
 {
     let shown = lines_records::show_record(record, p.records);
-    let line = shown.line;
-    let what = shown.what;
-    let written = print(line, desk);
-    Tally {
-        go: written && is_record(what),
-        printed: counted(p, what),
-    }
+    *p = counted(*p, shown.what);
+    print(shown.line, desk) && shown.what != What::NoRecord
 }
 
-// Prints the next record, or the last line where none is left, and says whether to go on. Nothing more is printed where a read has failed.
+// Prints the next record and counts it, or prints the last line where none is left, and says whether to go on. Nothing more is printed where a read has failed.
 fn show_one<R: Read, W: Write, E: Write, C: Clock>(
     input: &mut R,
-    p: Printed,
+    p: &mut Printed,
     desk: &mut Desk<W, E, C>,
-) -> Tally
-    requires fact_1 { Counts p }
-    requires fact_2 { p.records + 1 < 2 ^ 64 }
-    ensures counts { Counts result.printed }
-    ensures few { result.printed.records ≤ p.records + 1 }
+) -> bool
+    requires fact_1 { Counts p.old }
+    requires fact_2 { p.old.records + 1 < 2 ^ 64 }
+    ensures counts { Counts p.new }
+    ensures few { p.new.records ≤ p.old.records + 1 }
 {
-    let mut record = [0u8; 64];
+    let mut record = [0; 64];
     let filled = read_whole(input, &mut record, desk);
-    let n = filled.bytes;
     if filled.failed.is_some() {
-        return Tally {
-            go: false,
-            printed: p,
-        };
+        return false;
     }
-    if n == 0 {
+    if filled.bytes == 0 {
         print(lines::end_line(p.records, p.frames, p.gaps), desk);
-        return Tally {
-            go: false,
-            printed: p,
-        };
+        return false;
     }
-    show_bytes(&record[..n], p, desk)
+    show_bytes(&record[..filled.bytes], p, desk)
 }
 
-// Prints the whole journal and gives its counts. A proved loop has to end, and nothing says that the input does: the loop counts its turns down, from a
-// number that no run uses up.
+// Prints the whole journal and gives its counts. A proved loop has to end, and nothing says that the input does: the loop counts its turns, up to a number that
+// no run reaches.
+#[tactic(auto, using(crate::proofs::Counting::none_yet))]
 pub fn show<R: Read, W: Write, E: Write, C: Clock>(
     input: &mut R,
     desk: &mut Desk<W, E, C>,
@@ -122,14 +96,9 @@ pub fn show<R: Read, W: Write, E: Write, C: Clock>(
         frames: 0,
         gaps: 0,
     };
-    let mut turns = u64::MAX;
-    while turns > 0 {
-        let t = show_one(input, p, desk);
-        p = t.printed;
-        if t.go {
-            turns -= 1;
-        } else {
-            turns = 0;
+    for _turn in 0..u64::MAX {
+        if !show_one(input, &mut p, desk) {
+            break;
         }
     }
     p

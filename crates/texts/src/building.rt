@@ -1,13 +1,12 @@
-// Puts text into a line, from left to right.
+// Puts text into a line, from left to right. A line may be any here, one without a text too: that is what these calls promise. `Text` is what the crates above take.
 ghost use Rattle.std.specs.Prelude.{◌≡◌, List, [], ◌∷◌, ◌++◌, ℕ, ◌+◌, ◌≤◌, length};
-ghost use Rattle.std.proofs.Math.Seq.{paste};
 ghost use Rattle.texts_rules.specs.Decimal.{decimal, signed_decimal};
 ghost use Rattle.texts_rules.specs.Text.{line_of};
 
 use crate::Line;
-use bits::amount;
 
 // Gives a line without text.
+#[tactic(auto, unfolding(texts_rules::specs::Text::line_of))]
 pub fn empty() -> Line
     ensures size { result.size ≡ 0 }
     ensures text { result ≡ line_of [] }
@@ -18,33 +17,16 @@ pub fn empty() -> Line
     }
 }
 
-// Writes a word over the bytes from `at` on, and gives them back.
-fn put(bytes: [u8; 128], at: usize, word: &[u8]) -> [u8; 128]
-    requires { at + length word.now ≤ 128 }
-    ensures { result ≡ paste bytes at word.now (length word.now) }
-{
-    let mut out = bytes;
-    let mut j = 0;
-    while j < word.len() {
-        out[at + j] = word[j];
-        j += 1;
-    }
-    out
-}
-
 // Puts a word behind a line's text, where it fits the line's 128 bytes.
 pub fn with_word(line: Line, word: &[u8]) -> Line
     requires { line.size + length word.now ≤ 128 }
     ensures size { result.size ≡ line.size + length word.now }
     ensures text { (t : List ℕ) → line ≡ line_of t → result ≡ line_of (t ++ word.now) }
 {
-    let size = line.size;
-    let bytes = line.bytes;
-    let longer = put(bytes, size, word);
-    Line {
-        size: size + word.len(),
-        bytes: longer,
-    }
+    let size = line.size + word.len();
+    let mut bytes = line.bytes;
+    bytes[line.size..size].copy_from_slice(word);
+    Line { size, bytes }
 }
 
 // Puts a number's decimal digits behind a line's text: at most twenty.
@@ -53,7 +35,7 @@ fn with_digits(line: Line, n: u64) -> Line
     ensures size { result.size ≤ line.size + 20 }
     ensures text { (t : List ℕ) → line ≡ line_of t → result ≡ line_of (t ++ decimal n) }
 {
-    let mut digits = [0u8; 20];
+    let mut digits = [0; 20];
     let k = io::decimal(n, &mut digits);
     with_word(line, &digits[..k])
 }
@@ -64,8 +46,7 @@ pub fn with_number(line: Line, n: u64) -> Line
     ensures size { result.size ≤ line.size + 21 }
     ensures text { (t : List ℕ) → line ≡ line_of t → result ≡ line_of (t ++ (32 ∷ decimal n)) }
 {
-    let spaced = with_word(line, b" ");
-    with_digits(spaced, n)
+    with_digits(with_word(line, b" "), n)
 }
 
 // Puts a space and a number behind a line's text, with a minus sign where it is below zero.
@@ -75,8 +56,7 @@ pub fn with_signed(line: Line, n: i64) -> Line
     ensures text { (t : List ℕ) → line ≡ line_of t → result ≡ line_of (t ++ (32 ∷ signed_decimal n)) }
 {
     if n < 0 {
-        let minus = with_word(line, b" -");
-        return with_digits(minus, amount(n));
+        return with_digits(with_word(line, b" -"), n.unsigned_abs());
     }
-    with_number(line, amount(n))
+    with_number(line, n.unsigned_abs())
 }

@@ -4,8 +4,6 @@ ghost use Rattle.bits.specs.Bit.{tab};
 ghost use Rattle.io.specs.Digits.{hex_digit_ascii};
 ghost use Rattle.texts_rules.specs.Text.{hex_at};
 
-use bits::byte;
-
 // Gives a hexadecimal digit in ASCII: 0 to 9, a to f.
 fn letter(d: u8) -> u8
     requires { d < 16 }
@@ -15,11 +13,11 @@ fn letter(d: u8) -> u8
 }
 
 // Gives hexadecimal digit i of the payload: two a byte, the high half first.
-fn digit_at(payload: [u8; 20], i: usize) -> u8
+fn digit_at(payload: &[u8; 20], i: usize) -> u8
     requires { i < 40 }
-    ensures { result ≡ hex_at payload i }
+    ensures { result ≡ hex_at payload.now i }
 {
-    let b = byte(payload[i / 2]);
+    let b = payload[i / 2];
     if i % 2 < 1 {
         return letter(b / 16);
     }
@@ -30,9 +28,9 @@ fn digit_at(payload: [u8; 20], i: usize) -> u8
 pub fn hex_of(payload: [u8; 20]) -> [u8; 40]
     ensures { result ≡ tab 40 (hex_at payload) }
 {
-    let mut digits = [0u8; 40];
-    for i in 0..40usize {
-        digits[i] = digit_at(payload, i);
+    let mut digits = [0; 40];
+    for (i, digit) in digits.iter_mut().enumerate() {
+        *digit = digit_at(&payload, i);
     }
     digits
 }

@@ -6,7 +6,9 @@
 
 mod building;
 mod digits;
+mod text;
 
 pub use building::{empty, with_number, with_signed, with_word};
 pub use digits::hex_of;
+pub use text::Text;
 pub use texts_rules::Line;

@@ -81,14 +81,6 @@ signed_apart (pos a) (negsuc b) h k e = absurd (omega (arith, first_digit 20 a 4
 signed_apart (negsuc a) (pos b) h k e = absurd (omega (arith, first_digit 20 b 45 _ (sym e)))
 signed_apart (negsuc a) (negsuc b) h k e = let same : decimal (suc a) ≡ decimal (suc b) = cc in ap negsuc (omega (arith, decimal_apart (suc a) (suc b) h k same))
 
-pub below_zero : (z : ℤ) → lt_z z (pos 0) ≡ true → 45 ∷ decimal (nat_abs z) ≡ signed_decimal z
-below_zero (pos n) t = absurd (omega (arith, ltb-true n 0 t))
-below_zero (negsuc n) t = refl
-
-pub not_below : (z : ℤ) → lt_z z (pos 0) ≡ false → decimal (nat_abs z) ≡ signed_decimal z
-not_below (pos n) t = refl
-not_below (negsuc n) t = let never : ◌≡◌ {A = ℕ} 0 1 = cc in absurd (omega arith)
-
 -- ---- what `io::decimal` makes
 
 fewest_one : (k n : ℕ) → n < 10 → IsDigitCount 10 1 n (suc k) → k ≡ 0

@@ -6,7 +6,9 @@
 ghost use Rattle.texts_rules.specs.Statements.{Decimals};
 
 // A line: how many bytes it has, and the bytes, with zeros behind them.
-#[derive(Clone, Copy)]
+// kept: the size beside the bytes, without an invariant: `print`, `print_error` and `print_behind` of crate `texts_printing` promise what they do with a size
+// above 128, and an edit tries it. Crate `texts` makes a line by a text that has the invariant.
+#[derive(Clone, Copy, Debug, PartialEq, Eq)]
 pub struct Line {
     pub size: usize,
     pub bytes: [u8; 128],

@@ -1,5 +1,6 @@
 -- The candidate check, test by test, from the numbers that the code measures.
 -- Assumes nothing.
+use Rattle.std.proofs.Common.{None}
 use mathlib.Core.List.{List, [], ◌∷◌}
 use mathlib.Core.Path.{◌≡◌, sym, ap, ap₂, ◌∙◌}
 use Prim.Native.Nat.{ℕ, ◌+◌, ◌<◌, ◌≤◌}
@@ -13,8 +14,8 @@ use Rattle.voice_rules.specs.declared.Test.TheVariants.{EndBits, Checksum, Dista
 use Rattle.voice_rules.specs.Candidate.{unlike, bytes_apart, candidate_tests}
 use Rattle.voice_rules.specs.Encoded.{with_tail, remade}
 use Rattle.voice_rules.specs.Trial.{Measure, measure, Verdict, speech, judged}
-use Rattle.voice_speech.specs.Heard.{silence, speech_of, checked_verdict}
-use Rattle.voice_check.proofs.Measured.{passes_on, fails_here}
+use Rattle.voice_speech.specs.Heard.{speech_of, checked_verdict}
+use Rattle.voice_check.proofs.Measured.{passes_on, fails_here, unlike_same, unlike_other}
 
 module _ (s : Stage) (table received c x : List ℕ) (allowed extra : ℕ) where
   abbrev given : Verdict
@@ -32,7 +33,7 @@ module _ (s : Stage) (table received c x : List ℕ) (allowed extra : ℕ) where
   abbrev m₄ : Measure
   m₄ = measure Tail (bytes_apart (remade table c x) c 34 8) 0
 
-  pub ends_fail : (r : ℕ) → r ≡ sum 8 (λ i. get_or x (86 + i) 0) → 0 < r → silence ≡ speech_of s (checked_verdict table received c x allowed extra)
+  pub ends_fail : (r : ℕ) → r ≡ sum 8 (λ i. get_or x (86 + i) 0) → 0 < r → None ≡ speech_of s (checked_verdict table received c x allowed extra)
   unfolding checked_verdict candidate_tests
   ends_fail r e h = fails_here m₁ (m₂ ∷ m₃ ∷ m₄ ∷ []) given s (rw e at h)
 
@@ -41,22 +42,22 @@ module _ (s : Stage) (table received c x : List ℕ) (allowed extra : ℕ) where
     unfolding checked_verdict candidate_tests
     past_1 = passes_on m₁ (m₂ ∷ m₃ ∷ m₄ ∷ []) given (rw e₁ at h₁)
 
-    pub checksum_fails : (r : ℕ) → r ≡ unlike (checksum_in x) (checksum_for x) → 0 < r → silence ≡ speech_of s (checked_verdict table received c x allowed extra)
-    checksum_fails r e h = fails_here m₂ (m₃ ∷ m₄ ∷ []) given s (rw e at h) ∙ ap (speech_of s) (sym past_1)
+    pub checksum_fails : (checksum_in x ≡ checksum_for x → ⊥) → None ≡ speech_of s (checked_verdict table received c x allowed extra)
+    checksum_fails h = fails_here m₂ (m₃ ∷ m₄ ∷ []) given s (unlike_other (checksum_in x) (checksum_for x) h) ∙ ap (speech_of s) (sym past_1)
 
-    module _ (r₂ : ℕ) (e₂ : r₂ ≡ unlike (checksum_in x) (checksum_for x)) (h₂ : r₂ ≤ 0) where
+    module _ (e₂ : checksum_in x ≡ checksum_for x) where
       past_2 : checked_verdict table received c x allowed extra ≡ judged (m₃ ∷ m₄ ∷ []) given
-      past_2 = past_1 ∙ passes_on m₂ (m₃ ∷ m₄ ∷ []) given (rw e₂ at h₂)
+      past_2 = past_1 ∙ passes_on m₂ (m₃ ∷ m₄ ∷ []) given (unlike_same (checksum_in x) (checksum_for x) e₂)
 
       pub distance_fails : (r : ℕ) → r ≡ coded_apart (convolved table x) received → allowed < r
-          → silence ≡ speech_of s (checked_verdict table received c x allowed extra)
+          → None ≡ speech_of s (checked_verdict table received c x allowed extra)
       distance_fails r e h = fails_here m₃ (m₄ ∷ []) given s (rw e at h) ∙ ap (speech_of s) (sym past_2)
 
       module _ (r₃ : ℕ) (e₃ : r₃ ≡ coded_apart (convolved table x) received) (h₃ : r₃ ≤ allowed) where
         past_3 : checked_verdict table received c x allowed extra ≡ judged (m₄ ∷ []) given
         past_3 = past_2 ∙ passes_on m₃ (m₄ ∷ []) given (rw e₃ at h₃)
 
-        pub tail_fails : (r : ℕ) → r ≡ bytes_apart (remade table c x) c 34 8 → 0 < r → silence ≡ speech_of s (checked_verdict table received c x allowed extra)
+        pub tail_fails : (r : ℕ) → r ≡ bytes_apart (remade table c x) c 34 8 → 0 < r → None ≡ speech_of s (checked_verdict table received c x allowed extra)
         tail_fails r e h = fails_here m₄ [] given s (rw e at h) ∙ ap (speech_of s) (sym past_3)
 
         pub all_pass : (r : ℕ) → r ≡ bytes_apart (remade table c x) c 34 8 → r ≤ 0 → (p : List ℕ) → p ≡ payload_of c x

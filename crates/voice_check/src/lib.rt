@@ -2,20 +2,18 @@
 
 #![tactic(auto)]
 
-ghost use Rattle.std.specs.Prelude.{◌≡◌, [], ◌∷◌, ◌+◌, ◌*◌, ◌≤◌, ◌<◌, get_or, length, take, drop};
+ghost use Rattle.std.specs.Prelude.{◌≡◌, [], ◌∷◌, ◌+◌, ◌≤◌, get_or};
 ghost use Rattle.bits.specs.Bit.{sum};
-ghost use Rattle.coding_rules.specs.Crc.{crc_of};
-ghost use Rattle.field.specs.Lent.{Powers, Logs};
-ghost use Rattle.protected_rules.specs.Convolution.{Input};
-ghost use Rattle.protected_rules.specs.Table.{Admitted};
-ghost use Rattle.voice_rules.specs.Candidate.{unlike, valid_mode, repair_tests};
+ghost use Rattle.protected_rules.specs.Word.{coded};
+ghost use Rattle.voice_rules.specs.Candidate.{valid_mode, valid_crc, repair_tests};
 ghost use Rattle.voice_rules.specs.Trial.{passing};
 ghost use Rattle.voice_speech.specs.Heard.{speech_of, checked_verdict};
 
-use bits::wide32;
-use voice_rules::Stage;
-use voice_speech::{Speech, silent};
-use voice_words::{bytes_apart, differs, mode_apart, with_tail};
+use field::Tables;
+use protected_rules::{BitArray, Table};
+use voice_rules::{Speech, Stage};
+use voice_speech::Received;
+use voice_words::{bytes_apart, mode_apart, summed, with_tail};
 
 // ---- tests of a word
 
@@ -23,104 +21,92 @@ use voice_words::{bytes_apart, differs, mode_apart, with_tail};
 pub fn mode_valid(word: &[u8; 42]) -> bool
     ensures { result ≡ passing (valid_mode word.now ∷ []) }
 {
-    if mode_apart(word, word[33] % 2) > 0 {
-        return false;
-    }
-    true
+    mode_apart(word, word[33] % 2) == 0
 }
 
-// Gives a checksum as a number of 32 bits.
-fn checksum32(x: u16) -> u32
-    ensures { (result ≡ x) × (result < 65536) }
+// Says whether bytes 34 and 35 are the CRC-16 of bytes 28 to 33.
+pub fn crc_valid(word: &[u8; 42]) -> bool
+    ensures { result ≡ passing (valid_crc word.now ∷ []) }
 {
-    x as u32
+    u16::from_be_bytes([word[34], word[35]]) == coding_crc::crc16(&word[28..34])
 }
 
-// Gives 0 where bytes 34 and 35 are the CRC-16 of bytes 28 to 33, else 1.
-pub fn crc_unlike(word: &[u8]) -> u32
-    requires { length word.now ≡ 42 }
-    ensures { result ≡ unlike (get_or word.now 34 0 * 256 + get_or word.now 35 0) (crc_of (take 6 (drop 28 word.now))) }
-{
-    let crc = checksum32(coding_crc::crc16(&word[28..34]));
-    let held = wide32(word[34]) * 256 + wide32(word[35]);
-    if held == crc {
-        return 0;
-    }
-    1
-}
-
+// kept: `succeeded` as a number of yes or no, by what may not change: this call says of a repair that failed, too, what `repair_tests` says.
 // Says whether a repair succeeded, with a word that was not there before, of valid mode and CRC-16.
+#[tactic(auto, using(crate::proofs::Measured::not_repaired, crate::proofs::Measured::repaired_passes))]
 pub fn repair_valid(succeeded: bool, copy: bool, mended: &[u8; 42]) -> bool
     ensures { result ≡ passing (repair_tests succeeded copy mended.now) }
 {
-    if !succeeded {
-        return false;
-    }
-    if copy {
-        return false;
-    }
-    if mode_apart(mended, mended[33] % 2) > 0 {
-        return false;
-    }
-    if crc_unlike(mended) > 0 {
-        return false;
-    }
-    true
+    let repaired = succeeded && !copy;
+    repaired && mode_valid(mended) && crc_valid(mended)
 }
 
 // ---- the candidate check
 
 // Counts the ones among the last eight input bits.
-fn end_bits(input: &[u8]) -> u32
-    requires { length input.now ≡ 94 }
-    ensures { result ≡ sum 8 (λ i. get_or input.now (86 + i) 0) }
+fn end_bits(input: &BitArray<94>) -> u32
+    ensures { result ≡ sum 8 (λ i. get_or input.now.bits (86 + i) 0) }
 {
-    let mut d: u32 = 0;
-    for i in 0..8usize {
-        d += wide32(input[86 + i]);
-    }
-    d
+    summed(8, |i| u32::from(input.bits[86 + i]))
 }
 
-// Tests the candidate c with the input x against the received coded bits, and gives the speech when all tests pass.
+// Tests a candidate with an input against received coded bits, and gives the speech when all tests pass.
 pub fn checked(
-    powers: &field::PowerTable,
-    logs: &field::LogTable,
-    table: &[u8],
+    tables: &Tables,
+    table: &Table,
     received: &[u8; 176],
-    c: &[u8; 42],
-    x: &[u8; 94],
+    candidate: &[u8; 42],
+    input: &BitArray<94>,
     allowed: u32,
     extra: u32,
     stage: Stage,
-) -> Speech
-    requires fact_1 { Powers powers.now }
-    requires fact_2 { Logs logs.now }
-    requires fact_3 { Admitted table.now }
-    requires fact_4 { Input x.now }
-    requires fact_5 { extra ≤ 336 }
-    ensures { result ≡ speech_of stage (checked_verdict table.now received.now c.now x.now allowed extra) }
+) -> Option<Speech>
+    requires { extra ≤ 336 }
+    ensures { result ≡ speech_of stage (checked_verdict table.now.entries received.now candidate.now input.now.bits allowed extra) }
 {
-    if end_bits(x) > 0 {
-        return silent();
+    if end_bits(input) > 0 {
+        return None;
     }
-    if differs(protected::checksum_in(x), protected::checksum_of(x)) > 0 {
-        return silent();
+    if protected::checksum_in(input) != protected::checksum_of(input) {
+        return None;
     }
-    let code = protected::convolution(table, x);
-    let distance = protected::coded_apart(&code, received);
+    let code = protected::convolution(table, input);
+    let distance = protected::coded_apart(&code.bits, received);
     if distance > allowed {
-        return silent();
+        return None;
     }
-    let filled = protected::write_protected(c, &code);
-    let remade = with_tail(powers, logs, filled);
-    if bytes_apart(&remade, c, 34, 8) > 0 {
-        return silent();
+    let filled = protected::write_protected(candidate, &code);
+    let remade = with_tail(tables, filled);
+    if bytes_apart(&remade, candidate, 34, 8) > 0 {
+        return None;
     }
-    Speech {
-        accepted: true,
+    Some(Speech {
         stage,
         corrected: distance + extra,
-        payload: protected::payload_of(c, x),
-    }
+        payload: protected::payload_of(candidate, input),
+    })
+}
+
+// Tests a candidate with an input against the word that is received.
+pub fn heard(
+    received: &Received,
+    candidate: &[u8; 42],
+    input: &BitArray<94>,
+    allowed: u32,
+    extra: u32,
+    stage: Stage,
+) -> Option<Speech>
+    requires { extra ≤ 336 }
+    ensures { result ≡ speech_of stage (checked_verdict received.now.table.entries (coded received.now.word) candidate.now input.now.bits allowed extra) }
+{
+    checked(
+        &received.tables,
+        &received.table,
+        &received.bits.bits,
+        candidate,
+        input,
+        allowed,
+        extra,
+        stage,
+    )
 }

@@ -1,5 +1,6 @@
 -- The hard decoder corrects at most 32 bits: 8 coded ones, and 24 in the three bytes that a repair may change; joint repair at most 12.
 -- Assumes nothing.
+use Rattle.std.proofs.Common.{Result, Ok, Err}
 use mathlib.Core.Bool.{Bool, true, false, cond}
 use mathlib.Core.List.{List, [], ◌∷◌, ◌++◌}
 use mathlib.Core.Path.{◌≡◌, refl, sym, ap, ap₂, ◌∙◌}
@@ -13,6 +14,7 @@ use lib.Dec.{eqb}
 use lib.ListN.{length, get_or, take, drop, length-drop}
 use lib.Seq.{get_or-drop, get_or-append-add, length-take-le}
 use Rattle.bits.specs.Bit.{Bytes, sum}
+use Rattle.bits.specs.declared.Refusal.{Refusal}
 use Rattle.bits.specs.declared.Refusal.TheVariants.{Size, Table}
 use Rattle.bits.proofs.Belows.{below_rest, below_drop}
 use Rattle.bits.proofs.Sums.{sum_ext}
@@ -24,11 +26,10 @@ use Rattle.protected_rules.specs.Word.{coded}
 use Rattle.tail_rules.specs.Repair.{Answer, refused, repaired, repair_of}
 use Rattle.tail_rules.specs.Code.{wrong_from, one_if, wrong}
 use Rattle.tail_rules.proofs.Searching.{repaired_near}
+use Rattle.voice_rules.specs.declared.Speech.{Speech}
 use Rattle.voice_rules.specs.declared.Stage.{Stage}
 use Rattle.voice_rules.specs.declared.Stage.TheVariants.{StageA, StageC}
-use Rattle.voice_rules.specs.declared.Decoding.{Decoding}
-use Rattle.voice_rules.specs.declared.Decoding.TheVariants.{Accepted, Refused}
-use Rattle.voice_rules.specs.Calls.{answered, refused_by, decode_answer}
+use Rattle.voice_rules.specs.Calls.{answered, decode_answer}
 use Rattle.voice_rules.specs.Candidate.{bits_apart, low_flag, candidate_tests, trial, repair_tests}
 use Rattle.voice_rules.specs.Hard.{corrected_bits, hard_trial, hard_trials, trials_by, succeeds, plain_trial, repair_trial, joint_tests, joint_trial, mended, decoded_word}
 use Rattle.voice_rules.specs.Trial.{Outcome, heard, silent, speech, verdict}
@@ -135,22 +136,22 @@ module _ (table word : List ℕ) (long : length word ≡ 42) (wb : Bytes word) w
 -- ---- what the decoder answers
 
 -- an answer that corrects at most 32 bits
-abbrev Corrects : Decoding → Type 0
-Corrects (Accepted s n) = n ≤ 32
-Corrects (Refused x) = Unit {0}
+abbrev Corrects : Result Speech Refusal → Type 0
+Corrects (Ok s) = s.corrected ≤ 32
+Corrects (Err x) = Unit {0}
 
-outcome_few : (table word : List ℕ) → length word ≡ 42 → Bytes word → (o : Outcome) → decoded_word table word ≡ o → Corrects (answered o).decoding
+outcome_few : (table word : List ℕ) → length word ≡ 42 → Bytes word → (o : Outcome) → decoded_word table word ≡ o → Corrects (answered o)
 outcome_few table word long wb (heard s p n) e = heard_few table word long wb s p n e
 outcome_few table word long wb silent e = tt
 
-corrects : (table envelope : List ℕ) → Corrects (decode_answer table envelope).decoding
+corrects : (table envelope : List ℕ) → Corrects (decode_answer table envelope)
 unfolding decode_answer
 corrects table envelope = go (eqb (length envelope) 48) (admits table)
   where
-    go : (a b : Bool) → Corrects (cond a (cond b (answered (decoded_word table (descrambled envelope))) (refused_by Table)) (refused_by Size)).decoding
+    go : (a b : Bool) → Corrects (cond a (cond b (answered (decoded_word table (descrambled envelope))) (Err Table)) (Err Size))
     go true true = outcome_few table (descrambled envelope) (length_descrambled envelope) (descrambled_bytes envelope) (decoded_word table (descrambled envelope)) refl
     go true false = tt
     go false b = tt
 
 pub few_corrected : FewCorrected
-few_corrected table envelope s n e = rw e at (corrects table envelope)
+few_corrected table envelope s n p e = rw e at (corrects table envelope)

@@ -3,9 +3,8 @@
 -- Assumes nothing.
 use Rattle.std.specs.Prelude.{List, ◌≡◌, ℕ, ◌≤◌}
 use Rattle.voice_rules.specs.declared.Stage.{Stage}
-use Rattle.voice_rules.specs.declared.Decoding.TheVariants.{Accepted}
-use Rattle.voice_rules.specs.Calls.{decode_answer}
+use Rattle.voice_rules.specs.Calls.{accepted, decode_answer}
 
 -- of every table and every envelope
 abbrev pub FewCorrected : Type 0
-FewCorrected = (table envelope : List ℕ) (s : Stage) (n : ℕ) → (decode_answer table envelope).decoding ≡ Accepted s n → n ≤ 32
+FewCorrected = (table envelope : List ℕ) (s : Stage) (n : ℕ) (payload : List ℕ) → decode_answer table envelope ≡ accepted s n payload → n ≤ 32

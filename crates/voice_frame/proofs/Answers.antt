@@ -1,5 +1,6 @@
 -- What the encoder answers and leaves, return by return.
 -- Assumes nothing.
+use Rattle.std.proofs.Common.{Err}
 use mathlib.Core.Bool.{Bool, true, false, cond, ◌&&◌}
 use mathlib.Core.List.{List}
 use mathlib.Core.Path.{◌≡◌, refl, ap, ◌∙◌}
@@ -8,7 +9,6 @@ use lib.Dec.{eqb}
 use lib.ListN.{length}
 use borrow.Author.Tests.{eq-eqb, ne_eqb}
 use Rattle.bits.specs.declared.Refusal.TheVariants.{Size, Table}
-use Rattle.bits.specs.declared.Writing.TheVariants as writing
 use Rattle.coding_rules.specs.Calls.{size_answer, after_scramble}
 use Rattle.coding_rules.specs.Scramble.{scrambled}
 use Rattle.protected_rules.specs.Table.{admits}
@@ -17,7 +17,7 @@ use Rattle.voice_rules.specs.Encoded.{encoded_word}
 
 module _ (table payload envelope : List ℕ) (alternate : Bool) where
   module _ (e : encode_sized payload envelope ≡ false) where
-    pub size_answer_lem : writing.Refused Size ≡ encode_answer table payload envelope
+    pub size_answer_lem : Err Size ≡ encode_answer table payload envelope
     unfolding encode_answer
     size_answer_lem = rw e refl
 
@@ -34,7 +34,7 @@ module _ (table payload envelope : List ℕ) (alternate : Bool) where
 
     module _ (q : length envelope ≡ 48) where
       module _ (a : admits table ≡ false) where
-        pub table_answer : writing.Refused Table ≡ encode_answer table payload envelope
+        pub table_answer : Err Table ≡ encode_answer table payload envelope
         unfolding encode_answer
         table_answer = simp (eq-eqb (length payload) 20 p, eq-eqb (length envelope) 48 q, a)
 

@@ -17,7 +17,7 @@ module _ (h : ℕ → ℕ → ℕ) where
   length_walk (suc t) s =
       length-append (walk h t (s / 2 + 128 * h t s)) (s % 2 ∷ []) ∙ omega (arith, length_walk t (s / 2 + 128 * h t s))
 
-  walk_bits : (t s : ℕ) → Bits (walk h t s)
+  pub walk_bits : (t s : ℕ) → Bits (walk h t s)
   unfolding walk
   walk_bits zero s = below_none 2 (omega arith)
   walk_bits (suc t) s = below_append (walk h t (s / 2 + 128 * h t s)) (walk_bits t (s / 2 + 128 * h t s)) (below_cons (omega arith) (below_none 2 (omega arith)))

@@ -9,6 +9,7 @@ ghost use Rattle.voice_path_rules.specs.Path.{disagree, weigh};
 ghost use Rattle.voice_path_steps.specs.Steps.{pair_of, Weighed, IsPair, IsStep};
 
 use protected_rules::{EVEN_MASK, ODD_MASK};
+use std::array;
 use voice_path_rules::Seen;
 
 // The costs of two neighbouring states, and which of its two ways each has come.
@@ -27,11 +28,18 @@ pub struct Stepped {
     pub chosen: [u8; 256],
 }
 
+// The parities of the registers 2 p, for each prior state p below 128.
+#[derive(Clone, Copy)]
+pub struct ParityPairs {
+    pub of_prior: [u8; 128],
+    pub ghost right: { of_prior ≡ tab 128 (λ p. pair_of (2 * p)) },
+}
+
 // Gives 1 where x is less than y, else 0.
 fn below(x: u32, y: u32) -> u8
     ensures { result ≡ cond (ltb x y) 1 0 }
 {
-    if x < y { 1 } else { 0 }
+    u8::from(x < y)
 }
 
 // Gives the weight w where two bits differ, else 0.
@@ -48,25 +56,20 @@ fn parity_pair(register: u32) -> u8
     bits::parity(register & ODD_MASK) + 2 * bits::parity(register & EVEN_MASK)
 }
 
-// Makes the parities of the registers 2 p, for each prior state p below 128: once a search, for all its steps.
-pub fn parities() -> [u8; 128]
-    ensures { result ≡ tab 128 (λ p. pair_of (2 * p)) }
-{
-    let mut pairs = [0u8; 128];
-    for p in 0..128usize {
-        pairs[p] = parity_pair((2 * p) as u32);
+// Makes the parities of all pairs of states: once a search, for all its steps.
+pub fn parities() -> ParityPairs {
+    ParityPairs {
+        of_prior: array::from_fn(|p| parity_pair((2 * p) as u32)),
     }
-    pairs
 }
 
 // Gives what the register 2 prior costs: the weight of each of its two bits that disagrees with what was seen.
-fn differ(pairs: &[u8; 128], prior: usize, seen: Seen) -> u32
-    requires fact_1 { pairs.now ≡ tab 128 (λ p. pair_of (2 * p)) }
-    requires fact_2 { prior < 128 }
-    requires fact_3 { Weighed seen }
+fn differ(pairs: &ParityPairs, prior: usize, seen: Seen) -> u32
+    requires within { prior < 128 }
+    requires weighed { Weighed seen }
     ensures { result ≡ weigh seen (2 * prior) }
 {
-    let pair = bits::wide32(pairs[prior]);
+    let pair = u32::from(pairs.of_prior[prior]);
     unless_same(pair % 2, seen.a, seen.wa) + unless_same(pair / 2, seen.b, seen.wb)
 }
 
@@ -77,19 +80,19 @@ fn butterfly(left: u32, right: u32, d: u32, e: u32) -> Pair
     ensures { IsPair left right d e result }
 {
     Pair {
-        even: bits::lesser(left + d, right + e),
-        odd: bits::lesser(left + e, right + d),
+        even: (left + d).min(right + e),
+        odd: (left + e).min(right + d),
         ebit: below(right + e, left + d),
         obit: below(right + d, left + e),
     }
 }
 
+// kept: what a step has seen is `Weighed` by a clause, no ghost field of `Seen`: the definition `seen_at` makes a `Seen` of any lists.
 // Takes one step from each of the 128 pairs of prior states. A register whose first or last bit alone is another has both parities the other way, and costs
 // the rest of the weights.
-pub fn step(pairs: &[u8; 128], costs: [u32; 256], seen: Seen) -> Stepped
+pub fn step(pairs: &ParityPairs, costs: [u32; 256], seen: Seen) -> Stepped
     requires weighed { Weighed seen }
     requires by_index { (s : ℕ) → s < 256 → get_or costs s 0 ≤ 2 ^ 31 }
-    requires pairs_value { pairs.now ≡ tab 128 (λ p. pair_of (2 * p)) }
     ensures { IsStep costs seen result }
 {
     let mut next = [0u32; 256];

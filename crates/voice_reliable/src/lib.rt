@@ -3,9 +3,11 @@
 
 #![tactic(auto)]
 
-ghost use Rattle.std.specs.Prelude.{◌≡◌, cond, ◌+◌, ◌*◌, ◌<◌, min, ltb, length, get_or};
+ghost use Rattle.std.specs.Prelude.{◌≡◌, cond, ◌+◌, ◌*◌, ◌<◌, ltb, length, get_or};
 ghost use Rattle.bits.specs.Bit.{Below};
 ghost use Rattle.voice_rules.specs.Soft.{reliability, weights_of, least, tail_keys, earliest, least_places};
+
+use std::array;
 
 // Looks up the reliability of word bit i, past the markers.
 fn reliability_of(reliabilities: &[u8], i: usize) -> u8
@@ -20,18 +22,7 @@ pub fn weights_of(reliabilities: &[u8]) -> [u8; 176]
     requires { length reliabilities.now ≡ 384 }
     ensures { result ≡ weights_of reliabilities.now }
 {
-    let mut weights = [0u8; 176];
-    for m in 0..176usize {
-        weights[m] = reliability_of(reliabilities, 40 + 128 * (m % 2) + m / 2);
-    }
-    weights
-}
-
-// Gives the less reliable of two.
-fn less_reliable(x: u8, y: u8) -> u8
-    ensures { result ≡ min x y }
-{
-    if y < x { y } else { x }
+    array::from_fn(|m| reliability_of(reliabilities, 40 + 128 * (m % 2) + m / 2))
 }
 
 // Gives the reliability of a tail byte's least reliable bit.
@@ -39,9 +30,10 @@ fn least_bit(reliabilities: &[u8], b: usize) -> u8
     requires { (length reliabilities.now ≡ 384) × (b < 14) }
     ensures { result ≡ least 7 (λ j. reliability reliabilities.now (8 * (28 + b) + j)) }
 {
-    let mut key = reliability_of(reliabilities, 8 * (28 + b));
-    for j in 0..7usize {
-        key = less_reliable(key, reliability_of(reliabilities, 8 * (28 + b) + (j + 1)));
+    let first = 8 * (28 + b);
+    let mut key = reliability_of(reliabilities, first);
+    for j in 0..7 {
+        key = key.min(reliability_of(reliabilities, first + (j + 1)));
     }
     key
 }
@@ -51,41 +43,27 @@ pub fn keys_of(reliabilities: &[u8]) -> [u16; 14]
     requires { length reliabilities.now ≡ 384 }
     ensures { result ≡ tail_keys reliabilities.now }
 {
-    let mut keys = [0u16; 14];
-    for b in 0..14usize {
-        keys[b] = bits::wide16(least_bit(reliabilities, b));
-    }
-    keys
+    array::from_fn(|b| u16::from(least_bit(reliabilities, b)))
 }
 
+// kept: beside `min_by_key`, since that is no plainer: of equal keys the earlier is wanted, by `earliest`, and the place and not the key.
 // Gives place n where its key is less than the best one's, else the best.
-fn better(keys: [u16; 14], n: usize, best: usize) -> usize
+fn better(keys: &[u16; 14], n: usize, best: usize) -> usize
     requires { (n < 14) × (best < 14) }
-    ensures { (result ≡ cond (ltb (get_or keys n 0) (get_or keys best 0)) n best) × (result < 14) }
+    ensures { (result ≡ cond (ltb (get_or keys.now n 0) (get_or keys.now best 0)) n best) × (result < 14) }
 {
-    if keys[n] < keys[best] {
-        return n;
-    }
-    best
+    if keys[n] < keys[best] { n } else { best }
 }
 
 // Finds the earliest of the least keys.
-fn earliest_of(keys: [u16; 14]) -> usize
-    ensures { (result ≡ earliest keys 14) × (result < 14) }
+fn earliest_of(keys: &[u16; 14]) -> usize
+    ensures { (result ≡ earliest keys.now 14) × (result < 14) }
 {
-    let mut best: usize = 0;
-    for n in 0..14usize {
+    let mut best = 0;
+    for n in 0..14 {
         best = better(keys, n, best);
     }
     best
-}
-
-// Gives a place of the tail as a byte.
-fn narrow(p: usize) -> u8
-    requires { p < 14 }
-    ensures { result ≡ p }
-{
-    p as u8
 }
 
 // Takes the six places of least key, the least first and of equal ones the earlier; 256 marks one that is taken.
@@ -94,9 +72,9 @@ pub fn least_places(keys: [u16; 14]) -> [u8; 6]
 {
     let mut left = keys;
     let mut places = [0u8; 6];
-    for i in 0..6usize {
-        let p = earliest_of(left);
-        places[i] = narrow(p);
+    for i in 0..6 {
+        let p = earliest_of(&left);
+        places[i] = p as u8;
         left[p] = 256;
     }
     places

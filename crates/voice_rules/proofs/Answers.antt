@@ -1,5 +1,6 @@
 -- Demand 2 and the rest of the statements, from what is heard in a word to what the calls answer.
 -- Assumes nothing.
+use Rattle.std.proofs.Common.{Result, Ok, Err}
 use mathlib.Core.Bool.{Bool, true, false, cond}
 use mathlib.Core.List.{List}
 use mathlib.Core.Path.{◌≡◌, refl, sym, ap, ◌∙◌}
@@ -11,8 +12,7 @@ use lib.ListN.{length, get_or}
 use borrow.Author.Tests.{eq-eqb}
 use Rattle.bits.specs.Bit.{bit_hi, number, Bytes}
 use Rattle.bits.specs.declared.Refusal.{Refusal}
-use Rattle.bits.specs.declared.Refusal.TheVariants.{Size, Table, NoSpeech}
-use Rattle.bits.specs.declared.Writing.TheVariants as writing
+use Rattle.bits.specs.declared.Refusal.TheVariants.{Size, Table}
 use Rattle.bits.proofs.Belows.{below_tab}
 use Rattle.bits.proofs.Conds.{cond_both}
 use Rattle.bits.proofs.Digits.{digit_lt, number_lt}
@@ -22,11 +22,10 @@ use Rattle.coding_rules.proofs.ScrambleLaws.{s_lt}
 use Rattle.protected_rules.specs.Table.{Admitted, admits}
 use Rattle.protected_rules.specs.Word.{Payload}
 use Rattle.protected_rules.proofs.Admission.{admitted_admits}
+use Rattle.voice_rules.specs.declared.Speech.{Speech}
 use Rattle.voice_rules.specs.declared.Stage.{Stage}
 use Rattle.voice_rules.specs.declared.Stage.TheVariants.{StageA}
-use Rattle.voice_rules.specs.declared.Decoded.{Decoded}
-use Rattle.voice_rules.specs.declared.Decoding.TheVariants.{Accepted, Refused}
-use Rattle.voice_rules.specs.Calls.{encode_sized, encode_answer, encode_leaves, no_payload, refused_by, answered, decoded_by, decode_answer, soft_answer}
+use Rattle.voice_rules.specs.Calls.{encode_sized, encode_answer, encode_leaves, no_payload, payload_in, accepted, answered, decoded_by, decode_answer, soft_answer}
 use Rattle.voice_rules.specs.Encoded.{encoded_word}
 use Rattle.voice_rules.specs.Hard.{decoded_word}
 use Rattle.voice_rules.specs.Soft.{softly_decoded_word}
@@ -69,17 +68,17 @@ module _ (table : List ℕ) (t : Admitted table) where
 
     -- where the encoded word is heard, so is the envelope
     back : (f : List ℕ → Outcome) → f (encoded_word table p (cond a 1 0)) ≡ heard StageA p 0
-        → decoded_by table (encode_leaves table p a e) f ≡ record { decoding = Accepted StageA 0; payload = p }
+        → decoded_by table (encode_leaves table p a e) f ≡ accepted StageA 0 p
     back f g =
         ap (λ (l : List ℕ). decoded_by table l f) leaves_is
         ∙ decoded_is (scrambled (encoded_word table p (cond a 1 0))) (length_scrambled (encoded_word table p (cond a 1 0))) f
         ∙ ap answered (ap f (there_again table t p q (cond a 1 0) (flag_small a)) ∙ g)
 
-    hard_back : decode_answer table (encode_leaves table p a e) ≡ record { decoding = Accepted StageA 0; payload = p }
+    hard_back : decode_answer table (encode_leaves table p a e) ≡ accepted StageA 0 p
     unfolding decode_answer
     hard_back = back (decoded_word table) (heard_back table t p q (cond a 1 0) (flag_small a))
 
-    soft_back : (rs : List ℕ) → soft_answer table (encode_leaves table p a e) rs ≡ record { decoding = Accepted StageA 0; payload = p }
+    soft_back : (rs : List ℕ) → soft_answer table (encode_leaves table p a e) rs ≡ accepted StageA 0 p
     unfolding soft_answer
     soft_back rs = back (λ word. softly_decoded_word table word rs) (heard_softly table t p q (cond a 1 0) (flag_small a) rs)
 
@@ -88,26 +87,23 @@ round_trip = record { hard = λ table t p q a e h. hard_back table t p q a e h; 
 
 pub injective : Injective
 injective table t p q hp hq a b e h same =
-    ap (λ (d : Decoded). d.payload) (sym (hard_back table t p hp a e h) ∙ ap (decode_answer table) same ∙ hard_back table t q hq b e h)
+    ap payload_in (sym (hard_back table t p hp a e h) ∙ ap (decode_answer table) same ∙ hard_back table t q hq b e h)
 
 -- ---- what is accepted was heard
 
 was_heard : (t u : Bool) (o : Outcome) (s : Stage) (n : ℕ) (p : List ℕ)
-    → cond t (cond u (answered o) (refused_by Table)) (refused_by Size) ≡ record { decoding = Accepted s n; payload = p } → o ≡ heard s p n
+    → cond t (cond u (answered o) (Err Table)) (Err Size) ≡ accepted s n p → o ≡ heard s p n
 was_heard true true (heard s' p' n') s n p e =
-    let d : Accepted s' n' ≡ Accepted s n = ap (λ (r : Decoded). r.decoding) e in
-    let i : s' ≡ s = cc in
-    let j : n' ≡ n = cc in
-    let k : p' ≡ p = ap (λ (r : Decoded). r.payload) e in
+    let r : ◌≡◌ {A = Speech} (record { stage = s'; corrected = n'; payload = p' }) (record { stage = s; corrected = n; payload = p }) = cc in
+    let i : s' ≡ s = ap (λ (x : Speech). x.stage) r in
+    let j : n' ≡ n = ap (λ (x : Speech). x.corrected) r in
+    let k : p' ≡ p = ap (λ (x : Speech). x.payload) r in
     cc
 was_heard true true silent s n p e =
-    let d : Refused NoSpeech ≡ Accepted s n = ap (λ (r : Decoded). r.decoding) e in
     let z : ◌≡◌ {A = ℕ} 0 1 = cc in absurd (omega arith)
 was_heard true false o s n p e =
-    let d : Refused Table ≡ Accepted s n = ap (λ (r : Decoded). r.decoding) e in
     let z : ◌≡◌ {A = ℕ} 0 1 = cc in absurd (omega arith)
 was_heard false u o s n p e =
-    let d : Refused Size ≡ Accepted s n = ap (λ (r : Decoded). r.decoding) e in
     let z : ◌≡◌ {A = ℕ} 0 1 = cc in absurd (omega arith)
 
 pub exact_distance : ExactDistance
@@ -118,14 +114,14 @@ exact_distance table e s n p d =
 
 -- ---- refusals
 
-unwritten : (t u : Bool) (w e : List ℕ) (r : Refusal) → cond t (cond u writing.Written (writing.Refused Table)) (writing.Refused Size) ≡ writing.Refused r
+unwritten : (t u : Bool) (w e : List ℕ) (r : Refusal) → ◌≡◌ {A = Result Unit Refusal} (cond t (cond u (Ok tt) (Err Table)) (Err Size)) (Err r)
     → cond t (cond u w e) e ≡ e
 unwritten true true w e r h = let z : ◌≡◌ {A = ℕ} 0 1 = cc in absurd (omega arith)
 unwritten true false w e r h = refl
 unwritten false u w e r h = refl
 
-no_payload_lem : (t u : Bool) (o : Outcome) (r : Refusal) → (cond t (cond u (answered o) (refused_by Table)) (refused_by Size)).decoding ≡ Refused r
-    → (cond t (cond u (answered o) (refused_by Table)) (refused_by Size)).payload ≡ no_payload
+no_payload_lem : (t u : Bool) (o : Outcome) (r : Refusal) → cond t (cond u (answered o) (Err Table)) (Err Size) ≡ Err r
+    → payload_in (cond t (cond u (answered o) (Err Table)) (Err Size)) ≡ no_payload
 no_payload_lem true true (heard s p n) r h = let z : ◌≡◌ {A = ℕ} 0 1 = cc in absurd (omega arith)
 no_payload_lem true true silent r h = refl
 no_payload_lem true false o r h = refl

@@ -1,7 +1,7 @@
 -- The least reliable places: picked one after the other, each the earliest of the least that are left, they come in the order of (key, place), and
 -- before all others. Assumes nothing.
 use mathlib.Core.Bool.{Bool, true, false, cond}
-use mathlib.Core.List.{List, [], ◌∷◌}
+use mathlib.Core.List.{List}
 use mathlib.Core.Path.{◌≡◌, refl, sym, ap, ◌∙◌}
 use Prim.Native.Nat.{ℕ, zero, suc, ◌+◌, ◌*◌, ◌≤◌, ◌<◌, min}
 use native.Mathlib.Decide.{dec_lt}
@@ -10,12 +10,12 @@ use lib.Dec.{ltb}
 use lib.ListN.{length, get_or, set, length-set}
 use lib.Seq.{get_or-set_same, get_or-set_other}
 use borrow.Author.Tests.{ltb-true, ltb-false}
-use Rattle.bits.specs.Bit.{tab, sum, Bytes}
+use Rattle.bits.specs.Bit.{sum, Bytes}
 use Rattle.bits.proofs.Conds.{cond_both, cond_cases, cond_lt}
 use Rattle.bits.proofs.Sums.{sum_ext, sum_zero}
 use Rattle.bits.proofs.Tabs.{length_tab, tab_at}
 use Rattle.voice_rules.specs.Soft.{reliability, least, tail_keys, counts_less, earliest, least_places, soft_repairs}
-use Rattle.voice_rules.specs.SoftLaws.{counted, of_bit, erased, Before, SoftLaws}
+use Rattle.voice_rules.specs.SoftLaws.{counted, of_bit, Before, SoftLaws}
 
 -- ---- the least of f 0, .., f n
 

@@ -7,7 +7,7 @@ use Rattle.voice_rules.specs.declared.Test.{Test}
 use Rattle.voice_rules.specs.declared.Test.TheVariants.{ModeBits, Repair, NothingRepaired, Crc16, EndBits, Checksum, Distance, Tail, OuterBits, OuterBytes, Total}
 use Rattle.voice_rules.specs.Hard.{hard_trials}
 use Rattle.voice_rules.specs.Soft.{soft_trials}
-use Rattle.voice_rules.specs.Trial.{Measure, Trial}
+use Rattle.voice_rules.specs.Trial.{Trial}
 
 -- a test and its limit
 abbrev pub Limit : Type 0

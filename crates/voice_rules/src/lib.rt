@@ -3,6 +3,8 @@
 
 #![tactic(auto)]
 
+ghost use Rattle.std.specs.Prelude.{◌≡◌};
+ghost use Rattle.voice_rules.specs.Calls.{payload_in};
 ghost use Rattle.voice_rules.specs.LimitTable.{LimitTable};
 ghost use Rattle.voice_rules.specs.Nearest.{NearestTried};
 ghost use Rattle.voice_rules.specs.SoftLaws.{SoftLaws};
@@ -18,7 +20,7 @@ pub use limits::{
 };
 
 // Names the stage that accepts: (a) to (d) are document 01's hard ones.
-#[derive(Clone, Copy)]
+#[derive(Clone, Copy, PartialEq, Eq, Debug)]
 pub enum Stage {
     StageA,
     StageB,
@@ -28,7 +30,7 @@ pub enum Stage {
 }
 
 // Names what a trial tests, in the order of document 02's list (A2).
-#[derive(Clone, Copy)]
+#[derive(Clone, Copy, PartialEq, Eq, Debug)]
 pub enum Test {
     ModeBits,
     Repair,
@@ -43,18 +45,22 @@ pub enum Test {
     Total,
 }
 
-// A decoding's answer: the stage that accepted and the corrected bits, or the refusal.
-#[derive(Clone, Copy)]
-pub enum Decoding {
-    Accepted(Stage, u32),
-    Refused(Refusal),
+// A speech: the stage that accepted it, the corrected bits and the payload. A decoding answers with it or with a refusal, which has no payload.
+#[derive(Clone, Copy, PartialEq, Eq, Debug)]
+pub struct Speech {
+    pub stage: Stage,
+    pub corrected: u32,
+    pub payload: [u8; 20],
 }
 
-// The answer, and the payload beside it: all zero when refused.
-#[derive(Clone, Copy)]
-pub struct Decoded {
-    pub decoding: Decoding,
-    pub payload: [u8; 20],
+// Gives the payload of a decoding's answer: all zero where that is a refusal.
+pub fn payload_in(answer: Result<Speech, Refusal>) -> [u8; 20]
+    ensures { result ≡ payload_in answer }
+{
+    match answer {
+        Ok(speech) => speech.payload,
+        Err(_) => [0u8; 20],
+    }
 }
 
 // Demand 2: every encoded payload comes back, with nothing corrected.

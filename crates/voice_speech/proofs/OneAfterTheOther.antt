@@ -1,53 +1,37 @@
--- One trial after the other, as the code tries them: the first that is accepted is handed back.
+-- One trial after the other, as the code tries them: the first speech that is heard is handed back.
 -- Assumes nothing.
-use mathlib.Core.Bool.{Bool, true, false, cond}
+use Rattle.std.proofs.Common.{Option, None, Some}
+use Rattle.std.specs.Option.{option_or, MatchOption}
 use mathlib.Core.List.{List, [], ◌∷◌, ◌++◌}
-use mathlib.Core.Path.{◌≡◌, refl, sym, ap, ap₂, ◌∙◌}
-use Rattle.voice_rules.specs.declared.Stage.{Stage}
+use mathlib.Core.Path.{◌≡◌, refl, sym, ap, ◌∙◌}
+use Rattle.voice_rules.specs.declared.Speech.{Speech}
 use Rattle.voice_rules.specs.Trial.{Trial, Verdict, speech, fails, verdict, or_else, first_of}
-use Rattle.voice_speech.specs.declared.Speech.{Speech}
-use Rattle.voice_speech.specs.Heard.{silence, speech_of, said, told, either}
+use Rattle.voice_speech.specs.Heard.{speech_of, said, told}
 
-pub told_first : (t : Trial) (ts : List Trial) → told (first_of (t ∷ ts)) ≡ either (said t) (told (first_of ts))
+pub told_first : (t : Trial) (ts : List Trial) → told (first_of (t ∷ ts)) ≡ option_or (said t) (told (first_of ts))
 unfolding first_of
 told_first t ts = go (verdict t)
   where
-    go : (v : Verdict) → told (or_else t.stage v (first_of ts)) ≡ either (speech_of t.stage v) (told (first_of ts))
+    go : (v : Verdict) → told (or_else t.stage v (first_of ts)) ≡ option_or (speech_of t.stage v) (told (first_of ts))
     go (speech p n) = refl
     go (fails m) = refl
 
-pub either_assoc : (a b c : Speech) → either (either a b) c ≡ either a (either b c)
-either_assoc a b c = go a.accepted refl
-  where
-    go : (t : Bool) → a.accepted ≡ t → either (cond t a b) c ≡ cond t a (either b c)
-    go true e = ap (λ (t : Bool). cond t a c) e
-    go false e = refl
+pub or_assoc : (a b c : Option Speech) → option_or (option_or a b) c ≡ option_or a (option_or b c)
+or_assoc None b c = refl
+or_assoc (Some s) b c = refl
+
+pub or_none : (a : Option Speech) → option_or a None ≡ a
+or_none None = refl
+or_none (Some s) = refl
 
 -- two rows of trials, one after the other
-pub told_append : (ts us : List Trial) → told (first_of (ts ++ us)) ≡ either (told (first_of ts)) (told (first_of us))
+pub told_append : (ts us : List Trial) → told (first_of (ts ++ us)) ≡ option_or (told (first_of ts)) (told (first_of us))
 unfolding first_of
 told_append [] us = refl
-told_append (t ∷ ts) us = told_first t (ts ++ us) ∙ ap (either (said t)) (told_append ts us) ∙ sym (either_assoc (said t) (told (first_of ts)) (told (first_of us)))
-    ∙ ap (λ (a : Speech). either a (told (first_of us))) (sym (told_first t ts))
+told_append (t ∷ ts) us = told_first t (ts ++ us) ∙ ap (option_or (said t)) (told_append ts us) ∙ sym (or_assoc (said t) (told (first_of ts)) (told (first_of us)))
+    ∙ ap (λ (a : Option Speech). option_or a (told (first_of us))) (sym (told_first t ts))
 
-either_first : (a b : Speech) → a.accepted ≡ true → a ≡ either a b
-either_first a b e = ap (λ (t : Bool). cond t a b) (sym e)
-
-either_second : (a b : Speech) → a.accepted ≡ false → b ≡ either a b
-either_second a b e = ap (λ (t : Bool). cond t a b) (sym e)
-
-pub either_last : (v : Verdict) (s : Stage) → either (speech_of s v) silence ≡ speech_of s v
-either_last (speech p n) s = refl
-either_last (fails m) s = refl
-
--- the first accepted is handed back
-pub then_first : (a b s : Speech) → s ≡ a → s.accepted ≡ true → s ≡ either a b
-then_first a b s e h = either_first s b h ∙ ap (λ (u : Speech). either u b) e
-
--- else the second
-pub then_second : (a b s r : Speech) → s ≡ a → s.accepted ≡ false → r ≡ b → r ≡ either a b
-then_second a b s r e h q = either_second s r h ∙ ap₂ either e q
-
--- nothing is accepted where both are silent
-pub both_silent : (a b : Speech) → silence ≡ a → silence ≡ b → silence ≡ either a b
-both_silent a b p q = ap₂ either p q
+-- what `or_else` gives: the first speech, or where there is none what its closure gives
+pub or_else_is : {P : Type 0} (a b r : Option Speech) → MatchOption a P (λ s. r ≡ Some s) → (P → r ≡ b) → r ≡ option_or a b
+or_else_is None b r h f = f h
+or_else_is (Some s) b r h f = h

@@ -1,5 +1,5 @@
 use Rattle.demands.proofs.RefusedSteps.{step_refuses}
-use Rattle.recorder_lines.proofs.Pushes.{wanted_sequential}
+use Rattle.recorder_lines.specs.Laws.{wanted_sequential}
 use Rattle.demand_stream.proofs.list_step.Goals as goal
 
 pub returns : goal.returns

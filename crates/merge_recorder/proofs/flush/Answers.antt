@@ -14,10 +14,10 @@ returns-then-out-lt-TURN_NEED c =
 pub release_all-moved-requires : goal.release_all-moved-requires
 release_all-moved-requires c =
     let v = c.requires in
-    record { fact_1 = v.work; fact_2 = few_told c.args.r v; fact_3 = omega (arith, c.if-out-lt-TURN_NEED.false, ap (λ (z : Laid). z.size) c.nothing_laid-none.ensures, v.work.accounted.valid.within) }
+    record { fact_1 = v.work; fact_2 = few_told c.args.r v; fact_3 = omega (arith, c.if-out-lt-TURN_NEED.false, ap (λ (z : Laid). z.size) c.nothing_laid.ensures, v.work.accounted.valid.within) }
 
 pub returns : goal.returns
 returns c =
     let r = c.args.r in
     let v = c.requires in
-    let e = c.release_all-moved.ensures in record { merge_flushed_by = flushed_by r v _ _ (omega (arith, c.if-out-lt-TURN_NEED.false)) _ _ c.nothing_laid-none.ensures c.release_all-moved.result.work e.moved e.valid e.reserved e.idle _ c.stepped.ensures; valid = flushed_valid r v _ _ (omega (arith, c.if-out-lt-TURN_NEED.false)) _ _ c.nothing_laid-none.ensures c.release_all-moved.result.work e.moved e.valid e.reserved e.idle _ c.stepped.ensures }
+    let e = c.release_all-moved.ensures in record { merge_flushed_by = flushed_by r v _ _ (omega (arith, c.if-out-lt-TURN_NEED.false)) _ _ c.nothing_laid.ensures c.release_all-moved.result.work e.moved e.valid e.reserved e.idle _ c.stepped.ensures; valid = flushed_valid r v _ _ (omega (arith, c.if-out-lt-TURN_NEED.false)) _ _ c.nothing_laid.ensures c.release_all-moved.result.work e.moved e.valid e.reserved e.idle _ c.stepped.ensures }

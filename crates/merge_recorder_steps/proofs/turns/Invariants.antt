@@ -15,7 +15,7 @@ abbrev pub invariant-loop-one : goal.invariant-loop-one
 invariant-loop-one l =
     (l.i ≤ l.all) × (length l.out ≡ length l.initial.out)
     × Stood (tried_of l.table) (dibits_of l.primary l.from) (dibits_of l.alternate l.start) (packed_dibits l.primary l.from) (packed_dibits l.alternate l.start)
-    (record { first = view_of l.initial.bits l.initial.rels l.initial.numbers; second = view_of l.initial.others l.initial.their l.initial.figures; pile = pile_of l.initial.work }) l.initial.out l.initial.laid l.i l.bits l.rels l.numbers l.others l.their l.figures l.work l.out l.laid
+    (record { first = view_of l.initial.bits l.initial.rels l.initial.numbers; second = view_of l.initial.others l.initial.their l.initial.figures; pile = pile_of l.initial.moved.work }) l.initial.out l.initial.moved.laid l.i l.bits l.rels l.numbers l.others l.their l.figures l.moved.work l.out l.moved.laid
 
 abbrev pub decreases-loop-one : goal.decreases-loop-one
 decreases-loop-one l = l.all - l.i

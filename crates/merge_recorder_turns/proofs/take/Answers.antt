@@ -9,4 +9,4 @@ pub returns : goal.returns
 unfolding inputs_of
 returns c =
     let a = c.args in
-    took_as _ (dibits_in_lem a.bytes.now a.from a.i a.n) _ _ _ c.requires.fact_1 _ _ _ _ _ (search rules) _ (same_dibits a.bytes.now a.from a.i a.n) c.feed_into-d.ensures _ c.settled_after-settled.ensures
+    took_as _ (dibits_in_lem a.bytes.now a.from a.i a.n) _ _ _ c.requires.fact_1 _ _ _ _ _ (search rules) _ (same_dibits a.bytes.now a.from a.i a.n) c.feed_into-d.ensures _ c.settled_after.ensures

@@ -1,13 +1,13 @@
--- `merge_stretches::settled_after` meets its contract.
+-- `settled_after`: by whether a dibit went in and the last push was taken.
 -- Assumes nothing.
-use Rattle.merge_stretches.proofs.Calming.{ended, goes_on, was_refused}
+use Rattle.std.proofs.Common.{◌≡◌, ◌∙◌, rules}
+use Rattle.merge_stretches.proofs.Calming.{ended, going, settled_at}
 use Rattle.merge_stretches.proofs.settled_after.Goals as goal
 
 pub returns-then-d-eq0 : goal.returns-then-d-eq0
 returns-then-d-eq0 c = ended _ _ _ c.if-d-eq0.true
 
-pub returns-in-Taken : goal.returns-in-Taken
-returns-in-Taken c = goes_on _ _ _ c.if-d-eq0.false c.in-Taken.is
-
-pub returns-in-Refused : goal.returns-in-Refused
-returns-in-Refused c = was_refused _ _ _ _ c.in-Refused.is
+pub returns : goal.returns
+returns c =
+    let e : c.map.result ≡ settled_at c.args.d.answer c.args.d.drained.numbers.figures.clock = search rules in
+    e ∙ going _ _ _ c.if-d-eq0.false

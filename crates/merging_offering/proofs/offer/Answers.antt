@@ -18,4 +18,4 @@ returns c =
     let a = c.args in
     let g : Got = record { head = a.head; envelope = a.envelope.now } in
     let e = c.offer_tried.ensures in
-    record { valid = e.valid; moved = tried_as_lem (tried_of a.table.now) _ a.stream g a.w _ _ _ _ c.offer_tried.result.work c.try_frame-tried.ensures e.moved; reserved = e.reserved; told = e.told }
+    record { valid = e.valid; moved = tried_as_lem (tried_of a.table.now) _ a.stream g a.before.work _ _ _ _ c.offer_tried.result.work c.try_frame-tried.ensures e.moved; reserved = e.reserved; told = e.told }

@@ -8,10 +8,6 @@ use Rattle.merging_rules.specs.Works.{said}
 use Rattle.merging_records.proofs.Putting.{frame_laid, frame_few}
 use Rattle.merging_records.proofs.put_release.Goals as goal
 
-pub put_frame-requires : goal.put_frame-requires
-put_frame-requires c =
-    record { fact_1 = c.requires.fact_3.1; fact_2 = c.requires.fact_3.2; fact_3 = c.envelope_for-envelope.ensures.size; fact_4 = c.requires.fact_4; fact_5 = omega arith }
-
 pub returns : goal.returns
 returns c =
     let a = c.args in

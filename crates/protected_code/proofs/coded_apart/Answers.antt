@@ -1,7 +1,7 @@
 use mathlib.Core.Path.{◌≡◌, ap, ◌∙◌}
-use Prim.Native.Nat.{ℕ, ◌-◌}
+use Prim.Native.Nat.{ℕ}
 use native.Mathlib.Omega.{arith}
-use lib.Bits.{bit_xor}
+use lib.Bits.{bit_xor, xor_lt}
 use lib.ListN.{get_or}
 use Rattle.bits.specs.Bit.{sum}
 use Rattle.bits.proofs.Turns.{sum_none, sum_turn}
@@ -14,8 +14,13 @@ loop-k-init c = (search rules, (search rules, sum_none _))
 
 pub loop-k-preserved : goal.loop-k-preserved
 loop-k-preserved c =
-    let l = c.loop-k in
-    (search rules, (search rules, sum_turn (λ j. bit_xor (get_or c.args.a.now j 0) (get_or c.args.b.now j 0)) l.k l.invariant.1.1 c.wide32-d.ensures.0))
+    let l = c.loop-k in (
+      search rules,
+      (
+        omega (arith, xor_lt 8 _ _ (c.fits-a l.k) (c.fits-b l.k), c.from-d.ensures),
+        sum_turn (λ j. bit_xor (get_or c.args.a.now j 0) (get_or c.args.b.now j 0)) l.k l.invariant.1.1 c.from-d.ensures,
+      ),
+    )
 
 pub returns : goal.returns
 unfolding coded_apart

@@ -1,4 +1,3 @@
-use Prim.Native.Nat.{◌-◌}
 use mathlib.Core.Path.{◌≡◌}
 use native.Mathlib.Omega.{arith}
 use borrow.Author.Rules.{rules}
@@ -8,8 +7,8 @@ use Rattle.protected_input.proofs.carried.Goals as goal
 pub loop-i-init : goal.loop-i-init
 loop-i-init c = (search rules, carried_none _)
 
-pub bounds-input-i : goal.bounds-input-i
-bounds-input-i c = omega arith
+pub bounds-bits-i : goal.bounds-bits-i
+bounds-bits-i c = omega arith
 
 pub loop-i-preserved : goal.loop-i-preserved
 loop-i-preserved c = (search rules, carried_more _ _ _ _ c.loop-i.invariant.1 (search rules) c.bit.ensures)

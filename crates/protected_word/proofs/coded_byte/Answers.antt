@@ -1,15 +1,10 @@
-use Prim.Native.Nat.{◌-◌}
 use borrow.Author.Tests.{lt-ltb, le-ltb}
 use Rattle.protected_rules.specs.Word.{with_coded_byte}
-use borrow.Author.Rules.{rules}
 use Rattle.protected_word.proofs.coded_byte.Goals as goal
 
 pub returns-then-k-lt5 : goal.returns-then-k-lt5
 unfolding with_coded_byte
 returns-then-k-lt5 c = simp (lt-ltb _ _ c.if-k-lt5.true)
-
-pub gather-requires : goal.gather-requires
-gather-requires c = (search rules, c.requires.1)
 
 pub returns-then-k-lt16 : goal.returns-then-k-lt16
 unfolding with_coded_byte
@@ -18,9 +13,6 @@ returns-then-k-lt16 c = simp (le-ltb _ _ c.if-k-lt5.false, lt-ltb _ _ c.if-k-lt1
 pub returns-then-k-lt21 : goal.returns-then-k-lt21
 unfolding with_coded_byte
 returns-then-k-lt21 c = simp (le-ltb _ _ c.if-k-lt5.false, le-ltb _ _ c.if-k-lt16.false, lt-ltb _ _ c.if-k-lt21.true)
-
-pub gather-requires-then-k-lt32 : goal.gather-requires-then-k-lt32
-gather-requires-then-k-lt32 c = (search rules, c.requires.1)
 
 pub returns-then-k-lt32 : goal.returns-then-k-lt32
 unfolding with_coded_byte

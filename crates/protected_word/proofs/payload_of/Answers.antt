@@ -1,19 +1,10 @@
-use mathlib.Core.Path.{refl}
-use Prim.Native.Nat.{◌-◌}
-use Rattle.bits.proofs.Filling.{filled_none, filled_more, filled_all}
-use Rattle.protected_rules.specs.Word.{payload_of}
-use borrow.Author.Rules.{rules}
+use Rattle.std.proofs.Common.{◌+◌, ◌*◌, rules}
+use Rattle.bits.specs.Bit.{number}
+use Rattle.protected_rules.specs.Word.{payload_of, payload_bit}
+use Rattle.protected_rules.proofs.Arrays.{made_by}
 use Rattle.protected_word.proofs.payload_of.Goals as goal
-
-pub loop-k-init : goal.loop-k-init
-loop-k-init c = filled_none _ _ _ refl
-
-pub payload_byte-requires : goal.payload_byte-requires
-payload_byte-requires c = (search rules, c.requires)
-
-pub loop-k-preserved : goal.loop-k-preserved
-loop-k-preserved c = filled_more (search rules) c.loop-k.invariant c.payload_byte.ensures
 
 pub returns : goal.returns
 unfolding payload_of
-returns c = filled_all (search rules) c.loop-k.invariant
+returns c =
+    made_by _ _ _ (λ k. number 8 (λ j. payload_bit c.args.word.now c.args.input.now.bits (8 * k + j))) (λ i y q h e. search (rules, e)) _ c.from_fn.ensures.items

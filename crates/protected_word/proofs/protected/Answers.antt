@@ -1,16 +1,16 @@
-use mathlib.Core.Path.{refl}
-use Prim.Native.Nat.{◌-◌}
-use Rattle.bits.proofs.Filling.{filled_none, filled_more, filled_all}
-use Rattle.protected_rules.specs.Word.{coded}
-use borrow.Author.Rules.{rules}
+use Rattle.std.proofs.Common.{subst, sym, rules}
+use Rattle.bits.specs.Bit.{bit_lo, Bits}
+use Rattle.protected_rules.specs.Word.{coded, coded_place}
+use Rattle.protected_rules.proofs.Arrays.{made_by}
+use Rattle.protected_rules.proofs.WordBits.{coded_bits}
 use Rattle.protected_word.proofs.protected.Goals as goal
 
-pub loop-m-init : goal.loop-m-init
-loop-m-init c = filled_none _ _ _ refl
-
-pub loop-m-preserved : goal.loop-m-preserved
-loop-m-preserved c = filled_more (search rules) c.loop-m.invariant c.bit.ensures
+pub invariant_of-result : goal.invariant_of-result
+unfolding coded
+invariant_of-result c =
+    let made = made_by _ _ _ (λ m. bit_lo c.args.word.now (coded_place m)) (λ i y q h e. search (rules, e)) _ c.from_fn.ensures.items in
+    record { each = subst Bits (sym made) (coded_bits c.args.word.now) }
 
 pub returns : goal.returns
 unfolding coded
-returns c = filled_all (search rules) c.loop-m.invariant
+returns c = made_by _ _ _ (λ m. bit_lo c.args.word.now (coded_place m)) (λ i y q h e. search (rules, e)) _ c.from_fn.ensures.items

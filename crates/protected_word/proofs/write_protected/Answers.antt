@@ -1,19 +1,8 @@
-use mathlib.Core.Path.{refl}
-use Prim.Native.Nat.{◌-◌}
-use Rattle.bits.proofs.Filling.{filled_none, filled_more, filled_all}
-use Rattle.protected_rules.specs.Word.{with_coded}
-use borrow.Author.Rules.{rules}
+use Rattle.std.proofs.Common.{rules}
+use Rattle.protected_rules.specs.Word.{with_coded, with_coded_byte}
+use Rattle.protected_rules.proofs.Arrays.{made_by}
 use Rattle.protected_word.proofs.write_protected.Goals as goal
-
-pub loop-k-init : goal.loop-k-init
-loop-k-init c = filled_none _ _ _ refl
-
-pub coded_byte-requires : goal.coded_byte-requires
-coded_byte-requires c = (search rules, c.requires)
-
-pub loop-k-preserved : goal.loop-k-preserved
-loop-k-preserved c = filled_more (search rules) c.loop-k.invariant c.coded_byte.ensures
 
 pub returns : goal.returns
 unfolding with_coded
-returns c = filled_all (search rules) c.loop-k.invariant
+returns c = made_by _ _ _ (with_coded_byte c.args.word.now c.args.code.now.bits) (λ i y q h e. search (rules, e)) _ c.from_fn.ensures.items

@@ -32,7 +32,7 @@ unfolding figures
 put_entry-size-requires c =
     let a = c.args in
     let same : length c.put_gap-at.new.out ≡ length a.out.now = search rules in
-    let is = sym c.frame_entry-entry.ensures in record { fact_1 = subst (λ (e : Entry). allowed e ≡ true) is (frame_allowed a.head.offset (figures a.head a.tried) c.requires.fact_1.ends c.requires.fact_1.errors c.requires.fact_2); fact_2 = subst (λ (e : Entry). size_fits e.body (length a.envelope.now) ≡ true) is (eq-eqb _ _ c.requires.fact_3); fact_3 = omega (arith, c.requires.fact_4, c.put_gap-at.ensures.few) }
+    let is = sym c.frame_entry.ensures in record { fact_1 = subst (λ (e : Entry). allowed e ≡ true) is (frame_allowed a.head.offset (figures a.head a.tried) c.requires.fact_1.ends c.requires.fact_1.errors c.requires.fact_2); fact_2 = subst (λ (e : Entry). size_fits e.body (length a.envelope.now) ≡ true) is (eq-eqb _ _ c.requires.fact_3); fact_3 = omega (arith, c.requires.fact_4, c.put_gap-at.ensures.few) }
 
 pub overflow_add-result : goal.overflow_add-result
 overflow_add-result c =
@@ -44,6 +44,6 @@ returns c try e =
     let h = a.head in
     laid_one try a.out.now _ _ a.before _ (record { head = h; envelope = a.envelope.now }) c.put_gap-at.result c.requires.fact_3 c.put_gap-at.ensures.size c.put_gap-at.ensures.stored c.put_entry-size.ensures.size
     (c.put_entry-size.ensures.stored
-    ∙ ap (λ (x : Entry). sets c.put_gap-at.new.out c.put_gap-at.result (record_of x a.envelope.now)) c.frame_entry-entry.ensures
+    ∙ ap (λ (x : Entry). sets c.put_gap-at.new.out c.put_gap-at.result (record_of x a.envelope.now)) c.frame_entry.ensures
     ∙ ap (λ (t : Tried). sets c.put_gap-at.new.out c.put_gap-at.result (record_of (entry_at h.offset (Frame (record { matched = h.matched; errors = h.errors; outcome = t.outcome; corrected = t.corrected }))) a.envelope.now)) (sym e))
     (ap (λ (n : ℕ). a.before.accepted + n) (c.accepted_by.ensures ∙ ap (λ (t : Tried). cond (is_accepted t.outcome) 1 0) (sym e))) refl

@@ -2,27 +2,18 @@
 -- Assumes nothing.
 use mathlib.Core.Path.{◌≡◌, sym, ap, ap₂, ◌∙◌}
 use mathlib.Core.List.{List}
-use Prim.Native.Nat.{ℕ, ◌+◌, ◌-◌, ◌<◌, ◌≤◌}
+use Prim.Native.Nat.{ℕ, ◌+◌, ◌-◌, ◌≤◌}
 use native.Mathlib.Nat.{le_refl}
 use native.Mathlib.Omega.{arith}
 use lib.ListN.{length, take, drop, length-drop}
 use lib.Seq.{take_all}
-use Rattle.bits.proofs.Conds.{cond_le, cond_gt}
+use Rattle.bits.proofs.Conds.{cond_le}
 use Rattle.sync_inputs.specs.Inputs.{softly}
 use Rattle.sync.specs.View.{view}
 use Rattle.replay_sync.specs.Streams.{fed_soft_case, feed_case, named}
 use Rattle.replay_sync.proofs.Reading.{named_is}
-use Rattle.replay_sync.proofs.Telling.{fed_told, told_as, told_unfit}
+use Rattle.replay_sync.proofs.Telling.{fed_told, told_as}
 use Rattle.replay_sync.proofs.fed_soft.Goals as goal
-
-pub returns-then-input-middle : goal.returns-then-input-middle
-returns-then-input-middle c =
-    let input : List ℕ = c.args.input.now in
-    let room : List ℕ = c.args.room.now in
-    let s = c.args.s in
-    let is : c.pair-middle.result ≡ named input 0 = named_is input 0 c.pair-middle.ensures.0 c.at.ensures c.at-2.ensures in
-    let short : length input < 2 + named input 0 = omega (arith, c.if-input-middle.true) in
-    told_unfit s (fed_soft_case room input (view s)) room c.args.out.now c.no_case.result (sym (cond_gt (2 + named input 0) (length input) _ _ short)) c.no_case.ensures c.requires
 
 pub returns : goal.returns
 returns c =

@@ -1,8 +1,6 @@
 -- `made_in` tells the status, and what is left in the word.
 -- Assumes nothing.
-use mathlib.Core.Path.{ap, ap₂, ◌∙◌}
-use mathlib.Core.List.{List, [], ◌∷◌}
-use Prim.Native.Nat.{ℕ, ◌-◌}
+use Rattle.std.proofs.Common.{ap, ap₂, ◌∙◌, ◌∷◌, List, ℕ}
 use Rattle.replay_bytes.proofs.Puts.{put_as, put_more}
 use Rattle.replay_tails.specs.Tails.{status_of}
 use Rattle.replay_tails.proofs.made_in.Goals as goal

@@ -4,49 +4,44 @@ use mathlib.Core.Path.{◌≡◌, refl, sym, ap, ◌∙◌}
 use native.Mathlib.Omega.{arith}
 use Rattle.sync_frames.specs.declared.frames.Drained.{Drained}
 use Rattle.sync_inputs.specs.Answers.{takes}
+use Rattle.sync_steps.specs.Steps.{SentAfter}
 use Rattle.sync_steps.proofs.Quiets.{waits_as}
 use Rattle.sync_steps.proofs.Answering.{taking, refuses, accepts}
-use Rattle.sync.proofs.Handing.{lends, brings_in, handed_by}
+use Rattle.sync.proofs.Handing.{lends, handed_by}
 use borrow.Author.Rules.{rules}
 use Rattle.sync.proofs.one_push.Goals as goal
+use Rattle.sync.proofs.one_push.Goals.{then-enough, else-enough}
 
-pub returns-then-took-eq0 : goal.returns-then-took-eq0
-returns-then-took-eq0 c =
+pub returns-then-made-eq0 : goal.returns-then-made-eq0
+returns-then-made-eq0 c =
     let l = lends c.args.s c.requires (search rules) (search rules) in
-    let z = sym c.made-took.ensures ∙ c.if-took-eq0.true in
-    handed_by c.args.s _ _ _ _ _ _ _ _ (refuses _ _ _ _ _ _ c.answer_to-answer.ensures z l.0 l.1.0 l.1.1 _ c.nothing-none.ensures)
-    (sym (ap (λ (d : Drained). d.numbers) c.nothing-none.ensures)) _ c.handed.ensures
+    let z = sym c.made.ensures ∙ c.if-made-eq0.true in
+    handed_by c.args.s _ _ _ _ _ _ _ _ (refuses _ _ _ _ _ _ c.answer_to-answer.ensures z l.0 l.1.0 l.1.1 _ c.nothing.ensures)
+    (sym (ap (λ (d : Drained). d.numbers) c.nothing.ensures)) _ c.handed.ensures
 
-pub put-requires-2 : goal.put-requires-2
-put-requires-2 c =
-    let l = lends c.args.s c.requires (search rules) (search rules) in
-    record { fact_1 = l.1.1.as_long; fact_2 = omega (arith, l.0.sound.first_in_lem, l.0.sound.restorable_few, l.1.0.1) }
+pub brought-one-requires-clause-fact_2 : goal.brought-one-requires-clause-fact_2
+brought-one-requires-clause-fact_2 c =
+    let t = taking _ _ _ _ c.answer_to-answer.ensures (λ z. c.if-made-eq0.false (c.made.ensures ∙ z)) in
+    (c.requires.few.1, t.early)
 
-pub appended-one-requires : goal.appended-one-requires
-appended-one-requires c =
-    let v = c.requires in
-    let t = taking _ _ _ _ c.answer_to-answer.ensures (λ z. c.if-took-eq0.false (c.made-took.ensures ∙ z)) in
-    record { fact_1 = v.steady; fact_2 = v.few.1; fact_3 = t.early }
+pub brought-one-requires-clause-fact_4 : goal.brought-one-requires-clause-fact_4
+brought-one-requires-clause-fact_4 c =
+    let t = taking _ _ _ _ c.answer_to-answer.ensures (λ z. c.if-made-eq0.false (c.made.ensures ∙ z)) in
+    omega (arith, t.good)
 
-pub sends-d-requires : goal.sends-d-requires
-sends-d-requires c =
-    let a = c.answer_to-answer.ensures in
-    let h : takes c.answer_to-answer.result ≡ 0 → ⊥ = λ z. c.if-took-eq0.false (c.made-took.ensures ∙ z) in
-    let b = brings_in c.args.s c.requires (search rules) (search rules) c.args.x _ _ a h _ _ c.put.ensures c.put-2.ensures _ c.appended-one.ensures in
-    record { fact_1 = b.rings.binary; fact_2 = b.steady; fact_3 = (taking _ _ _ _ a h).fits }
-
-pub returns-then-busy : goal.returns-then-busy
-returns-then-busy c =
-    let a = c.answer_to-answer.ensures in
-    let h : takes c.answer_to-answer.result ≡ 0 → ⊥ = λ z. c.if-took-eq0.false (c.made-took.ensures ∙ z) in
-    let b = brings_in c.args.s c.requires (search rules) (search rules) c.args.x _ _ a h _ _ c.put.ensures c.put-2.ensures _ c.appended-one.ensures in
-    handed_by c.args.s _ _ _ _ _ _ _ _ (accepts _ _ _ _ _ _ a h _ _ _ _ b _ c.sends-d.ensures) refl _ c.handed-then-busy.ensures
+pub sends-drained-requires-clause-fact_3 : goal.sends-drained-requires-clause-fact_3
+sends-drained-requires-clause-fact_3 c =
+    let t = taking _ _ _ _ c.answer_to-answer.ensures (λ z. c.if-made-eq0.false (c.made.ensures ∙ z)) in
+    t.fits
 
 pub returns : goal.returns
 returns c =
     let a = c.answer_to-answer.ensures in
-    let h : takes c.answer_to-answer.result ≡ 0 → ⊥ = λ z. c.if-took-eq0.false (c.made-took.ensures ∙ z) in
-    let b = brings_in c.args.s c.requires (search rules) (search rules) c.args.x _ _ a h _ _ c.put.ensures c.put-2.ensures _ c.appended-one.ensures in
-    let n = c.nothing-none-2.ensures in
-    handed_by c.args.s _ _ _ _ _ _ _ _ (accepts _ _ _ _ _ _ a h _ _ _ _ b _ (waits_as _ _ _ _ b.steady (c.enough-busy.ensures c.if-busy.false) _ n))
-    (sym (ap (λ (d : Drained). d.numbers) n)) _ c.handed-2.ensures
+    let h : takes c.answer_to-answer.result ≡ 0 → ⊥ = λ z. c.if-made-eq0.false (c.made.ensures ∙ z) in
+    let b = c.brought-one.ensures in
+    let sent : SentAfter c.brought-one.new.bits c.brought-one.new.reliabilities c.args.room.now c.if-enough.room c.brought-one.result c.if-enough.drained =
+    elim c.if-enough.branch [
+      | then-enough w ↦ rw (w.room-is, w.drained-is) w.sends-drained.ensures
+      | else-enough w ↦ rw (w.room-is, w.drained-is) (waits_as _ _ _ _ b.steady (c.enough.ensures w.if-enough.false) _ w.nothing-drained.ensures)
+    ] in
+    handed_by c.args.s _ _ _ _ _ _ _ _ (accepts _ _ _ _ _ _ a h _ _ _ _ b _ sent) refl _ c.handed-2.ensures

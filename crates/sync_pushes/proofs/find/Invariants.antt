@@ -6,9 +6,6 @@ use Rattle.sync_rules.specs.Ring.{ring}
 use Rattle.sync_rules.specs.Matching.{first_of, locks_at}
 use Rattle.sync_pushes.proofs.find.Given as goal
 
-abbrev pub invariant-loop-pos : goal.invariant-loop-pos
-invariant-loop-pos l =
-    (l.pos ≤ l.tries) × ((n : ℕ) → ((p : ℕ) → p < l.tries → p + 1152 ≤ n) → first_of (locks_at (ring l.bits l.base n)) 0 l.tries ≡ first_of (locks_at (ring l.bits l.base n)) l.pos (l.tries - l.pos))
-
-abbrev pub decreases-loop-pos : goal.decreases-loop-pos
-decreases-loop-pos l = l.tries - l.pos
+abbrev pub invariant-loop-place : goal.invariant-loop-place
+invariant-loop-place l =
+    (n : ℕ) → ((p : ℕ) → p < l.tries → p + 1152 ≤ n) → first_of (locks_at (ring l.bits l.base n)) 0 l.tries ≡ first_of (locks_at (ring l.bits l.base n)) l.place (l.tries - l.place)

@@ -1,13 +1,12 @@
 -- `sync_rooms::write_bits` meets its contract.
 -- Assumes nothing.
-use mathlib.Core.Path.{◌≡◌, refl, sym, ap, ap₂, ◌∙◌}
+use mathlib.Core.Path.{refl, sym, ap, ap₂, ◌∙◌}
 use mathlib.Core.List.{List}
 use native.Mathlib.Omega.{arith}
 use native.Mathlib.Nat.{mod-eq_of_lt}
-use Prim.Native.Nat.{ℕ, ◌+◌, ◌-◌, ◌*◌, ◌<◌}
-use lib.ListN.{set, length-set}
+use Prim.Native.Nat.{ℕ, ◌+◌, ◌*◌, ◌<◌}
+use lib.ListN.{set}
 use lib.Seq.{sets}
-use borrow.Author.Rules.{rules}
 use Rattle.sync_rules.specs.Ring.{ring}
 use Rattle.sync_rules.specs.Matching.{spell}
 use Rattle.sync_rules.specs.Room.{bytes_of}
@@ -17,27 +16,15 @@ use Rattle.sync_rooms.proofs.write_bits.Goals as goal
 
 pub loop-i-init : goal.loop-i-init
 unfolding bytes_of
-loop-i-init c = (search rules, refl, refl)
+loop-i-init c = refl
 
 pub loop-i-preserved : goal.loop-i-preserved
 loop-i-preserved c =
     let a = c.args in
     let l = c.loop-i in
     let xs = a.bits.now in
-    let w = spell 0 (ring xs (a.from + 8 * l.i) 8) in
-    let small : c.spelled-v.result < 256 = omega (arith, c.spelled-v.ensures, spell_lt xs (a.from + 8 * l.i) 8 c.requires.fact_1) in (
-      omega arith,
-      length-set l.room _ _ ∙ l.invariant.1,
-      ap₂ (λ (r : List ℕ) (v : ℕ). set r (a.to + l.i) v) l.invariant.2 (mod-eq_of_lt small ∙ c.spelled-v.ensures)
-          ∙ sets_more a.room.now a.to l.i (bytes_of l.i (ring xs a.from 128)) w (length_bytes_of l.i (ring xs a.from 128))
-          ∙ ap (sets a.room.now a.to) (sym (bytes_of_ring xs a.from l.i (omega arith))),
-    )
-
-pub shape_of-room : goal.shape_of-room
-shape_of-room c = c.loop-i.invariant.1
-
-pub returns : goal.returns
-returns c =
-    let a = c.args in
-    let e : c.loop-i.i ≡ 16 = omega arith in
-    c.loop-i.invariant.2 ∙ ap (λ (n : ℕ). sets a.room.now a.to (bytes_of n (ring a.bits.now a.from 128))) e
+    let at = a.from + 8 * l.i in
+    let small : c.spelled-byte.result < 256 = omega (arith, c.spelled-byte.ensures, spell_lt xs at 8 c.requires.fact_1) in
+    ap₂ (λ (r : List ℕ) (v : ℕ). set r (a.to + l.i) v) l.invariant (mod-eq_of_lt small ∙ c.spelled-byte.ensures)
+    ∙ sets_more a.room.now a.to l.i (bytes_of l.i (ring xs a.from 128)) (spell 0 (ring xs at 8)) (length_bytes_of l.i (ring xs a.from 128))
+    ∙ ap (sets a.room.now a.to) (sym (bytes_of_ring xs a.from l.i (omega arith)))

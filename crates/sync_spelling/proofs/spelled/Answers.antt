@@ -1,9 +1,8 @@
 -- `spelled`: after i turns `value` is what the first i bits spell, and `at` is the place of the next one.
 -- Assumes nothing.
-use Prim.Native.Nat.{ℕ, ◌-◌, ◌<◌}
-use mathlib.Core.Path.{◌≡◌, refl, ap, ◌∙◌}
+use Prim.Native.Nat.{ℕ, ◌<◌}
+use mathlib.Core.Path.{◌≡◌, ap}
 use mathlib.Core.List.{List}
-use mathlib.Core.Logic.{⊎_elim}
 use native.Mathlib.Omega.{arith}
 use borrow.Author.Rules.{rules}
 use lib.Pow.{pow_mono}
@@ -21,40 +20,22 @@ below bits from i v b h e = omega (arith, spell_lt bits from i b, pow_mono {i = 
 
 pub loop-i-init : goal.loop-i-init
 unfolding spell ring
-loop-i-init c = (search rules, omega arith, refl)
+loop-i-init c = search rules
 
 pub overflow_mul-value : goal.overflow_mul-value
 overflow_mul-value c =
     let l = c.loop-i in
-    let v : l.value < 32768 = below c.args.bits.now c.args.from l.i l.value c.requires.fact_1 (omega arith) l.invariant.2 in
-    record { fits = omega arith }
+    record { fits = omega (arith, below c.args.bits.now c.args.from l._i l.value c.requires.fact_1 (omega arith) l.invariant.spells) }
 
 pub overflow_add-value : goal.overflow_add-value
 overflow_add-value c =
     let l = c.loop-i in
-    let v : l.value < 32768 = below c.args.bits.now c.args.from l.i l.value c.requires.fact_1 (omega arith) l.invariant.2 in
-    record { fits = omega (arith, c.wide.ensures, c.requires.fact_1.at l.at) }
-
-pub overflow_add-at : goal.overflow_add-at
-overflow_add-at c = record { fits = omega arith }
-
-pub returns : goal.returns
-returns c =
-    c.loop-i.invariant.2 ∙ ap (λ (n : ℕ). spell 0 (ring c.args.bits.now c.args.from n)) (omega arith)
-
-pub bounds-bits-at : goal.bounds-bits-at
-bounds-bits-at c = omega arith
-
-pub overflow_add-i : goal.overflow_add-i
-overflow_add-i c = omega arith
-
-pub loop-i-smaller : goal.loop-i-smaller
-loop-i-smaller c = omega arith
+    record { fits = omega (arith, below c.args.bits.now c.args.from l._i l.value c.requires.fact_1 (omega arith) l.invariant.spells, c.from.ensures, c.requires.fact_1.at l.at) }
 
 pub loop-i-preserved : goal.loop-i-preserved
 loop-i-preserved c =
-    let l = c.loop-i in (
-      omega arith,
-      elim c.if-at-eq-MOST_HELD.branch [ then-at-eq-MOST_HELD w ↦ omega arith | else-at-eq-MOST_HELD w ↦ omega arith ],
-      omega (arith, spell_more c.args.bits.now c.args.from l.i, c.wide.ensures, ap (λ (k : ℕ). get_or c.args.bits.now k 0) l.invariant.1),
-    )
+    let l = c.loop-i in
+    record {
+      round = elim c.if-at-eq-MOST_HELD.branch [ then-at-eq-MOST_HELD w ↦ omega arith | else-at-eq-MOST_HELD w ↦ omega arith ];
+      spells = omega (arith, spell_more c.args.bits.now c.args.from l._i, c.from.ensures, ap (λ (k : ℕ). get_or c.args.bits.now k 0) l.invariant.round);
+    }

@@ -7,6 +7,7 @@ use Rattle.tail_rules.proofs.Written.{registered_is}
 use Rattle.tail_parity.proofs.register.Goals as goal
 
 pub returns : goal.returns
-returns c = let lr : length c.args.r ≡ 6 = omega (arith, c.well_formed.1.1.1.0) in
-    registered_is c.args.r c.args.g.now c.args.f _ _ _ _ _ _ lr c.requires.fact_3 c.product_by.ensures c.product_by-2.ensures c.product_by-3.ensures
-    c.product_by-4.ensures c.product_by-5.ensures c.product_by-6.ensures
+returns c =
+    let lr : length c.args.r ≡ 6 = omega (arith, c.well_formed.1.1.0) in
+    registered_is c.args.r c.args.g.now c.args.f _ _ _ _ _ _ lr c.requires c.product.ensures c.product-2.ensures c.product-3.ensures
+    c.product-4.ensures c.product-5.ensures c.product-6.ensures

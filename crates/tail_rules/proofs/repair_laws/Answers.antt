@@ -1,5 +1,6 @@
 -- What the repair means, field by field of the statement.
 -- Assumes nothing.
+use Rattle.std.proofs.Common.{Ok, Err}
 use mathlib.Core.Bool.{Bool, true, false}
 use mathlib.Core.List.{List, []}
 use mathlib.Core.Path.{◌≡◌, refl, sym, ap, ◌∙◌}
@@ -12,7 +13,6 @@ use Rattle.bits.specs.declared.Refusal.{Refusal}
 use Rattle.tail_rules.specs.Code.{Codeword, wrong, Near}
 use Rattle.tail_rules.proofs.Loops.{wrong_self}
 use Rattle.tail_rules.proofs.AtMostOne.{near_one, far_apart}
-use Rattle.tail_rules.specs.declared.Repairing.TheVariants.{Repaired, Refused}
 use Rattle.tail_rules.specs.Repair.{repaired, Repairs, repair_of}
 use Rattle.tail_rules.specs.Calls.{erasable, answer_of, written_over, tail_answer, tail_leaves}
 use Rattle.tail_rules.proofs.ErasedPlaces.{once_of, not_erasable, erasable_not}
@@ -22,7 +22,7 @@ use Rattle.tail_rules.proofs.SixErasures.{always_near}
 use Rattle.tail_rules.proofs.repair_laws.Goals as goal
 
 found : (es t c : List ℕ) → length t ≡ 14 → Bytes t → erasable es ≡ true → Near es t c
-    → (tail_answer es t ≡ Repaired (wrong [] t c)) × (tail_leaves es t ≡ c)
+    → (tail_answer es t ≡ Ok (wrong [] t c)) × (tail_leaves es t ≡ c)
 unfolding Repairs
 found es t c lt ht er near =
     let e = is_repair es t ht lt (repaired c (wrong [] t c)) (near, refl) in
@@ -34,7 +34,7 @@ clean es c l v =
     sym (is_repair es c v.bytes v.long (repaired c 0)
     (record { code = v; close = omega (arith, wrong_self 0 es c, l) }, sym (wrong_self 0 [] c)))
 
-unwritten : (es t : List ℕ) (r : Refusal) → tail_answer es t ≡ Refused r → tail_leaves es t ≡ t
+unwritten : (es t : List ℕ) (r : Refusal) → tail_answer es t ≡ Err r → tail_leaves es t ≡ t
 unwritten es t r e = go (ℕ_discrete (length t) 14) (erasable es) refl
   where
     go : Dec (length t ≡ 14) → (b : Bool) → erasable es ≡ b → tail_leaves es t ≡ t

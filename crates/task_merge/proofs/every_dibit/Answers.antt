@@ -2,17 +2,16 @@
 -- Assumes nothing.
 use mathlib.Core.Path.{refl, sym, ◌∙◌, subst}
 use native.Mathlib.Omega.{arith}
-use lib.Seq.{length-take-le}
 use Rattle.frame_outcomes.specs.Outcomes.{tried_of}
 use Rattle.intake.specs.Pieces.{cursor_at}
 use Rattle.intake.specs.declared.Cursor.{Cursor}
 use Rattle.intake.specs.declared.Going.TheVariants.{On}
 use Rattle.task_merge.specs.Heard.{BothHearing}
-use Rattle.task_merge.proofs.Hearing.{both_start, both_refilled, both_next, step_fits, step_length}
+use Rattle.task_merge.proofs.Hearing.{both_start, both_next, step_fits, step_length}
 use Rattle.task_merge.proofs.every_dibit.Goals as goal
 
-pub loop-turns-init : goal.loop-turns-init
-loop-turns-init g c =
+pub loop-init : goal.loop-init
+loop-init g c =
     let try = tried_of c.args.table.now in
     let r = c.start-r.result in
     let first = c.buffer-first.result in
@@ -25,14 +24,14 @@ loop-turns-init g c =
     )
 
 pub refilled-one-requires : goal.refilled-one-requires
-refilled-one-requires g c = let i = c.loop-turns.invariant in record { fact_1 = i.3.sound; fact_2 = omega (arith, i.0) }
+refilled-one-requires g c = let i = c.loop.invariant in record { fact_1 = i.3.sound; fact_2 = omega (arith, i.0) }
 
 pub refilled-two-requires : goal.refilled-two-requires
-refilled-two-requires g c = let i = c.loop-turns.invariant in record { fact_1 = i.3.other; fact_2 = omega (arith, i.1) }
+refilled-two-requires g c = let i = c.loop.invariant in record { fact_1 = i.3.other; fact_2 = omega (arith, i.1) }
 
 pub step_both-a-requires : goal.step_both-a-requires
 step_both-a-requires g c =
-    record { fact_1 = c.loop-turns.invariant.3.valid; fact_2 = c.refilled-one.ensures.sound; fact_3 = c.refilled-two.ensures.sound }
+    record { fact_1 = c.loop.invariant.3.valid; fact_2 = c.refilled-one.ensures.sound; fact_3 = c.refilled-two.ensures.sound }
 
 pub slice_bounds-out-end : goal.slice_bounds-out-end
 slice_bounds-out-end g c =
@@ -42,16 +41,16 @@ slice_bounds-out-end g c =
 pub beside-one-requires : goal.beside-one-requires
 beside-one-requires g c =
     let f = c.refilled-one in
-    record { fact_1 = f.ensures.sound.from; fact_2 = omega (arith, f.ensures.sound.size, f.ensures.kept, c.loop-turns.invariant.0) }
+    record { fact_1 = f.ensures.sound.from; fact_2 = omega (arith, f.ensures.sound.size, f.ensures.kept, c.loop.invariant.0) }
 
 pub beside-two-requires : goal.beside-two-requires
 beside-two-requires g c =
     let g = c.refilled-two in
-    record { fact_1 = g.ensures.sound.from; fact_2 = omega (arith, g.ensures.sound.size, g.ensures.kept, c.loop-turns.invariant.1) }
+    record { fact_1 = g.ensures.sound.from; fact_2 = omega (arith, g.ensures.sound.size, g.ensures.kept, c.loop.invariant.1) }
 
-pub loop-turns-preserved-then-both_go_on : goal.loop-turns-preserved-then-both_go_on
-loop-turns-preserved-then-both_go_on g c =
-    let l = c.loop-turns in
+pub loop-preserved : goal.loop-preserved
+loop-preserved g c =
+    let l = c.loop in
     let f = c.refilled-one in
     let g = c.refilled-two in
     let try = tried_of c.args.table.now in
@@ -62,26 +61,5 @@ loop-turns-preserved-then-both_go_on g c =
       both_next try l.r l.first l.second l.one l.two l.invariant.3 f.new.buf g.new.buf f.result g.result f.ensures.refilled f.ensures.sound g.ensures.refilled g.ensures.sound l.out left c.step_both-a.result c.step_both-a.ensures.met c.step_both-a.ensures.valid c.write_whole-written.result c.beside-one.result c.beside-two.result c.beside-one.ensures c.beside-two.ensures,
     )
 
-pub loop-turns-preserved : goal.loop-turns-preserved
-loop-turns-preserved g c =
-    let l = c.loop-turns in
-    let f = c.refilled-one in
-    let g = c.refilled-two in
-    let try = tried_of c.args.table.now in (
-      f.ensures.kept ∙ l.invariant.0,
-      g.ensures.kept ∙ l.invariant.1,
-      l.invariant.2,
-      both_refilled try l.r l.first l.second l.one l.two l.invariant.3 f.new.buf g.new.buf f.result g.result f.ensures.refilled f.ensures.sound g.ensures.refilled g.ensures.sound,
-    )
-
 pub returns : goal.returns
-returns g c = let i = c.loop-turns.invariant.3 in record { valid = i.valid; first = _; second = _; here = _; there = _; heard = i.heard }
-
-pub overflow_sub-turns : goal.overflow_sub-turns
-overflow_sub-turns g c = omega (arith, c.loop-turns-test.true)
-
-pub loop-turns-smaller-then-both_go_on : goal.loop-turns-smaller-then-both_go_on
-loop-turns-smaller-then-both_go_on g c = omega (arith, c.loop-turns-test.true)
-
-pub loop-turns-smaller : goal.loop-turns-smaller
-loop-turns-smaller g c = omega (arith, c.loop-turns-test.true)
+returns g c = let i = c.loop.invariant.3 in record { valid = i.valid; first = _; second = _; here = _; there = _; heard = i.heard }

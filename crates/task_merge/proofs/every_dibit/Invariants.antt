@@ -6,9 +6,6 @@ use Rattle.frame_outcomes.specs.Outcomes.{tried_of}
 use Rattle.task_merge.specs.Heard.{BothHearing}
 use Rattle.task_merge.proofs.every_dibit.Given as goal
 
-abbrev pub invariant-loop-turns : goal.invariant-loop-turns
-invariant-loop-turns g l =
+abbrev pub invariant-loop : goal.invariant-loop
+invariant-loop g l =
     (length l.first ≡ 4096) × (length l.second ≡ 4096) × (length l.out ≡ 8192) × BothHearing (tried_of l.table) l.r l.first l.one l.second l.two
-
-abbrev pub decreases-loop-turns : goal.decreases-loop-turns
-decreases-loop-turns g l = l.turns

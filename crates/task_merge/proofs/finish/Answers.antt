@@ -1,7 +1,5 @@
 -- `finish`: the records of the flush lie in the memory that it was lent.
 -- Assumes nothing.
-use mathlib.Core.Path.{sym}
-use lib.Seq.{length-take-le}
 use Rattle.task_merge.proofs.Hearing.{flush_fits}
 use Rattle.task_merge.proofs.finish.Goals as goal
 

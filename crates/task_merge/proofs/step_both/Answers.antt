@@ -18,7 +18,7 @@ slice_bounds-step-end-2 c = sym (length-take-le c.args.two.size c.args.second.no
 pub returns : goal.returns
 returns c =
     let a = c.args in record {
-      met = subst (λ (x : Bool). MergeSteppedBy (tried_of a.table.now) a.out.now c.step.new.out (rest_in a.first.now a.one) (not x) (rest_in a.second.now a.two) (not (is_on a.two.going)) a.r c.step.result) c.goes_on-over.ensures
-          (subst (λ (y : Bool). MergeSteppedBy (tried_of a.table.now) a.out.now c.step.new.out (rest_in a.first.now a.one) (not c.goes_on-over.result) (rest_in a.second.now a.two) (not y) a.r c.step.result) c.goes_on-ended.ensures c.step.ensures.merge_stepped_by);
+      met = subst (λ (x : Bool). MergeSteppedBy (tried_of a.table.now) a.out.now c.step.new.out (rest_in a.first.now a.one) (not x) (rest_in a.second.now a.two) (not (is_on a.two.going)) a.r c.step.result) c.goes_on.ensures
+          (subst (λ (y : Bool). MergeSteppedBy (tried_of a.table.now) a.out.now c.step.new.out (rest_in a.first.now a.one) (not c.goes_on.result) (rest_in a.second.now a.two) (not y) a.r c.step.result) c.goes_on-2.ensures c.step.ensures.merge_stepped_by);
       valid = c.step.ensures.valid;
     }

@@ -1,40 +1,26 @@
-use mathlib.Core.Path.{◌≡◌}
-use lib.ListN.{length}
-use Rattle.voice_path_rules.proofs.Walked.{found_input}
-use Rattle.protected_rules.proofs.WordBits.{coded_bits}
-use Rattle.voice_candidates.proofs.SoftTrials.{word_accepted, repairs_follow}
-use borrow.Author.Rules.{rules}
+use Rattle.std.proofs.Common.{◌≡◌, List, [], ◌∷◌, ℕ, rules, ap, ap₂, ◌∙◌}
+use Rattle.std.specs.Option.{option_or}
+use Rattle.voice_path_rules.specs.Path.{searched_by}
+use Rattle.protected_rules.specs.Word.{coded}
+use Rattle.voice_rules.specs.Soft.{mended_trials, weights_of, tail_keys, least_places}
+use Rattle.voice_rules.specs.Trial.{first_of}
+use Rattle.voice_speech.specs.Heard.{said, told}
+use Rattle.voice_speech.proofs.OneAfterTheOther.{or_else_is}
+use Rattle.voice_candidates.specs.Row.{trial_after, answers}
+use Rattle.voice_candidates.proofs.SoftTrials.{all_told}
 use Rattle.voice_candidates.proofs.candidates.Goals as goal
-
-pub search_by-x-requires : goal.search_by-x-requires
-search_by-x-requires c = let q = c.requires in record { admitted = q.fact_3; bits = rw q.fact_4 (coded_bits _) }
-
-pub try_candidate-s-requires : goal.try_candidate-s-requires
-try_candidate-s-requires c =
-    let q = c.requires in
-    record { fact_1 = q.fact_1; fact_2 = q.fact_2; fact_3 = q.fact_3; fact_4 = rw c.search_by-x.ensures (found_input _ _ _); fact_5 = (q.fact_4, search rules) }
-
-pub returns-then-s : goal.returns-then-s
-returns-then-s c =
-    let s = c.try_candidate-s in
-    let w = c.weights_of-weights in
-    let a = c.args in
-    word_accepted a.table.now a.word.now a.reliabilities.now a.received.now w.result
-    c.search_by-x.result c.requires.fact_4 w.ensures c.search_by-x.ensures _
-    s.result s.ensures c.if-s.true
-
-pub repairs-requires : goal.repairs-requires
-repairs-requires c =
-    let q = c.requires in
-    let n : length c.least_places-places.result ≡ 6 = search rules in
-    record { powers_1 = q.fact_1; powers_2 = q.fact_2; powers_3 = q.fact_3; powers_4 = rw c.search_by-x.ensures (found_input _ _ _); powers_5 = q.fact_4; places_len = (n, c.least_places-places.ensures.1) }
 
 pub returns : goal.returns
 returns c =
-    let s = c.try_candidate-s in
-    let w = c.weights_of-weights in
-    let a = c.args in
-    repairs_follow a.table.now a.word.now a.reliabilities.now a.received.now w.result
-    c.search_by-x.result c.requires.fact_4 w.ensures c.search_by-x.ensures _
-    s.result s.ensures c.if-s.false
-    c.keys_of.result c.least_places-places.result c.keys_of.ensures c.least_places-places.ensures.0 c.repairs.result c.repairs.ensures
+    let r = c.args.received.now in
+    let table = r.table.entries in
+    let w = r.word in
+    let rs = c.args.reliabilities.now in
+    let places = least_places (tail_keys rs) 6 in
+    let found : c.search_by-input.result.bits ≡ searched_by table (coded w) (weights_of rs) =
+    c.search_by-input.ensures ∙ ap₂ (searched_by table) r.read c.weights_of-weights.ensures in
+    let rest = λ (x : List ℕ). told (first_of (mended_trials table w x (w ∷ []) (answers places w))) in
+    or_else_is _ (rest c.search_by-input.result.bits) _ c.or_else.ensures (λ p. search (rules, p))
+    ∙ ap (λ s. option_or s (rest c.search_by-input.result.bits)) c.try_candidate.ensures
+    ∙ ap (λ (x : List ℕ). option_or (said (trial_after table w x w [])) (rest x)) found
+    ∙ all_told table w rs

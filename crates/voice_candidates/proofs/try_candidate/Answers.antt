@@ -1,19 +1,25 @@
-use mathlib.Core.List.{[]}
-use lib.ListN.{get_or}
+use Rattle.std.proofs.Common.{Bool, true, length, sym, ap, ◌∙◌}
+use Rattle.voice_rules.specs.Candidate.{repair_tests}
+use Rattle.voice_rules.specs.Soft.{copy_of}
+use Rattle.voice_rules.specs.Trial.{passing}
 use Rattle.voice_candidates.specs.Row.{seen}
-use Rattle.voice_candidates.proofs.SoftTrials.{unfit, fit}
+use Rattle.voice_candidates.proofs.SoftTrials.{soft_silent, soft_checked}
+use Rattle.voice_candidates.proofs.Turns.{copy_is}
 use Rattle.voice_candidates.proofs.try_candidate.Goals as goal
 
 pub returns-then-not-repair_valid : goal.returns-then-not-repair_valid
 returns-then-not-repair_valid c =
-    let a = c.args in
-    unfit a.table.now a.word.now (get_or a.words.now a.n []) a.x.now (seen a.words.now a.n)
-    a.succeeded c.is_copy-copy.result c.repair_valid.result c.is_copy-copy.ensures
-    c.repair_valid.ensures c.silent.result c.if-not-repair_valid.true c.silent.ensures
+    let r = c.args.received.now in
+    let m = c.args.candidate.now in
+    let before = c.args.before.now in
+    let valid = c.repair_valid.ensures ∙ ap (λ (b : Bool). passing (repair_tests true b m)) (c.is_copy.ensures ∙ copy_is m before) in
+    soft_silent r.table.entries r.word m c.args.input.now.bits (repair_tests true (copy_of m (seen before (length before))) m) (sym valid ∙ c.if-not-repair_valid.true)
 
 pub returns : goal.returns
 returns c =
-    let a = c.args in
-    fit a.table.now a.word.now (get_or a.words.now a.n []) a.x.now (seen a.words.now a.n)
-    a.succeeded c.is_copy-copy.result c.repair_valid.result c.is_copy-copy.ensures
-    c.repair_valid.ensures c.checked.result a.received.now c.requires.fact_5.0 c.if-not-repair_valid.false c.checked.ensures
+    let r = c.args.received.now in
+    let m = c.args.candidate.now in
+    let before = c.args.before.now in
+    let valid = c.repair_valid.ensures ∙ ap (λ (b : Bool). passing (repair_tests true b m)) (c.is_copy.ensures ∙ copy_is m before) in
+    c.heard.ensures
+    ∙ soft_checked r.table.entries r.word m c.args.input.now.bits (repair_tests true (copy_of m (seen before (length before))) m) (sym valid ∙ c.if-not-repair_valid.false)

@@ -1,40 +1,21 @@
-use mathlib.Core.Path.{◌≡◌, sym, ap, ◌∙◌}
-use Prim.Native.Nat.{ℕ, ◌-◌}
-use mathlib.Core.List.{List}
+use Rattle.std.proofs.Common.{rules, List, [], ℕ, drop, sym, ap, ◌∙◌}
+use Rattle.std.specs.Option.{option_or}
 use Rattle.protected_rules.specs.Convolution.{inverted}
-use Rattle.protected_rules.specs.Word.{coded}
-use Rattle.protected_rules.proofs.CodedBits.{inverted_input}
-use Rattle.protected_rules.proofs.WordBits.{coded_bits}
+use Rattle.tail_rules.specs.Repair.{repair_of}
 use Rattle.voice_rules.specs.declared.Stage.TheVariants.{StageA}
 use Rattle.voice_rules.specs.Hard.{plain_trial}
-use Rattle.voice_speech.proofs.OneAfterTheOther.{then_first, then_second}
-use Rattle.voice_speech.specs.Heard.{said}
+use Rattle.voice_speech.specs.Heard.{said, said_b, said_c, said_d}
+use Rattle.voice_speech.proofs.OneAfterTheOther.{or_assoc, or_else_is}
 use Rattle.voice_hard.proofs.Stages.{in_stages}
 use Rattle.voice_hard.proofs.hard.Goals as goal
 
-pub plain-a-requires : goal.plain-a-requires
-plain-a-requires c = record { fact_1 = c.requires.fact_1; fact_2 = c.requires.fact_2; fact_3 = c.requires.fact_3; fact_4 = rw c.inverse-x.ensures (inverted_input _ _ (rw c.requires.fact_4 (coded_bits _))); fact_5 = (c.requires.fact_4, c.mode_valid-valid.ensures) }
-
-pub returns-then-a : goal.returns-then-a
-returns-then-a c =
-    let table = c.args.table.now in
-    let w = c.args.word.now in
-    let ea : c.plain-a.result ≡ said (plain_trial StageA table w (inverted table (coded w))) = c.plain-a.ensures ∙ ap (λ (x : List ℕ). said (plain_trial StageA table w x)) (c.inverse-x.ensures ∙ ap (inverted table) c.requires.fact_4) in
-    then_first _ _ c.plain-a.result ea c.if-a.true ∙ sym (in_stages table w)
-
-pub returns-then-b : goal.returns-then-b
-returns-then-b c =
-    let table = c.args.table.now in
-    let w = c.args.word.now in
-    let ea : c.plain-a.result ≡ said (plain_trial StageA table w (inverted table (coded w))) = c.plain-a.ensures ∙ ap (λ (x : List ℕ). said (plain_trial StageA table w x)) (c.inverse-x.ensures ∙ ap (inverted table) c.requires.fact_4) in
-    then_second _ _ c.plain-a.result c.stage_b-b.result ea c.if-a.false (then_first _ _ c.stage_b-b.result c.stage_b-b.ensures c.if-b.true) ∙ sym (in_stages table w)
-
-pub searching-requires : goal.searching-requires
-searching-requires c = record { fact_1 = c.requires.fact_1; fact_2 = c.requires.fact_2; fact_3 = c.requires.fact_3; fact_4 = (c.inverse-x.ensures ∙ ap (inverted c.args.table.now) c.requires.fact_4, rw c.inverse-x.ensures (inverted_input _ _ (rw c.requires.fact_4 (coded_bits _)))); fact_5 = (c.requires.fact_4, c.mode_valid-valid.ensures) }
-
 pub returns : goal.returns
 returns c =
-    let table = c.args.table.now in
-    let w = c.args.word.now in
-    let ea : c.plain-a.result ≡ said (plain_trial StageA table w (inverted table (coded w))) = c.plain-a.ensures ∙ ap (λ (x : List ℕ). said (plain_trial StageA table w x)) (c.inverse-x.ensures ∙ ap (inverted table) c.requires.fact_4) in
-    then_second _ _ c.plain-a.result c.searching.result ea c.if-a.false (then_second _ _ c.stage_b-b.result c.searching.result c.stage_b-b.ensures c.if-b.false c.searching.ensures) ∙ sym (in_stages table w)
+    let table = c.args.received.now.table.entries in
+    let w = c.args.received.now.word in
+    let b = said_b table w (repair_of [] (drop 28 w)) in
+    let rest = option_or (said_c table w) (said_d table w) in
+    let a = c.plain.ensures ∙ ap (λ (x : List ℕ). said (plain_trial StageA table w x)) (c.inverse_input-inverse.ensures ∙ ap (inverted table) c.args.received.now.read) in
+    or_else_is _ rest _ c.or_else-2.ensures (λ p. search (rules, p))
+    ∙ ap (λ s. option_or s rest) (or_else_is _ b _ c.or_else.ensures (λ p. search (rules, p)) ∙ ap (λ s. option_or s b) a)
+    ∙ or_assoc _ b rest ∙ sym (in_stages table w)

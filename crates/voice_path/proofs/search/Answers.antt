@@ -4,6 +4,3 @@ use Rattle.voice_path.proofs.search.Goals as goal
 pub returns : goal.returns
 unfolding searched
 returns c = c.search_by.ensures
-
-pub search_by-requires : goal.search_by-requires
-search_by-requires c = record { admitted = c.requires.admitted; bits = c.requires.bits }

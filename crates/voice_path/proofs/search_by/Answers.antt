@@ -1,7 +1,7 @@
 use Rattle.bits.proofs.Filling.{set_more}
 use mathlib.Core.Path.{◌≡◌, ◌∙◌, refl, ap}
 use mathlib.Core.List.{List, []}
-use Prim.Native.Nat.{ℕ, ◌+◌, ◌*◌, ◌-◌, ◌/◌, ◌<◌}
+use Prim.Native.Nat.{ℕ, ◌+◌, ◌*◌, ◌/◌, ◌<◌}
 use native.Mathlib.Omega.{arith}
 use lib.ListN.{get_or, length-set}
 use Rattle.voice_path_rules.specs.Path.{searched_by, best, survivor_at, cost_of, weigh, path}
@@ -18,16 +18,13 @@ pub loop-t-init : goal.loop-t-init
 unfolding best
 loop-t-init c = (omega arith, refl, start_le, start_at, λ k h. absurd (omega arith))
 
-pub observe-requires : goal.observe-requires
-observe-requires c = record { t_bound = omega arith; admitted = c.requires.admitted; bits = c.requires.bits }
-
-pub step-stepped-requires : goal.step-stepped-requires
-step-stepped-requires c =
+pub step-requires : goal.step-requires
+step-requires c =
     let v = c.loop-t.invariant in
-    record { weighed = c.observe.ensures.1; by_index = λ s h. omega (arith, v.2 s h); pairs_value = c.parities-pairs.ensures }
+    record { weighed = c.observe.ensures.1; by_index = λ s h. omega (arith, v.2 s h) }
 
 pub pack-requires : goal.pack-requires
-pack-requires c = λ s h. rw (c.step-stepped.ensures.chosen s h) (survivor_small _ _ s)
+pack-requires c = λ s h. rw (c.step.ensures.chosen s h) (survivor_small _ _ s)
 
 pub loop-t-preserved : goal.loop-t-preserved
 unfolding cost_of
@@ -36,9 +33,9 @@ loop-t-preserved c =
     let a = c.args in
     let o = c.observe.result in
     let g = c.observe.ensures in
-    let st = c.step-stepped.ensures in
+    let st = c.step.ensures in
     let v = l.invariant in
-    let d = cost_of a.table.now a.received.now a.weights.now in
+    let d = cost_of a.table.now.entries a.received.now.bits a.weights.now in
     let same : (r : ℕ) → weigh o r ≡ d l.t r = λ r. ap (λ (x : Seen). weigh x r) g.0 in (
       omega arith,
       simp length-set v.1,
@@ -66,5 +63,5 @@ unfolding searched_by path kept
 returns c =
     let l = c.loop-t in
     let a = c.args in
-    let d = cost_of a.table.now a.received.now a.weights.now in
+    let d = cost_of a.table.now.entries a.received.now.bits a.weights.now in
     c.trace.ensures ∙ walk_cong (kept l.survivors) (survivor_at d) 94 (λ k h. l.invariant.4 k (omega arith)) (λ k s. survivor_small (best d k) (d k) s) 0 (omega arith)

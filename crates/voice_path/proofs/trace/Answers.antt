@@ -1,15 +1,17 @@
-use mathlib.Core.Path.{◌≡◌, ◌∙◌, refl, subst}
+use mathlib.Core.Path.{◌≡◌, ◌∙◌, refl, subst, sym}
 use mathlib.Core.List.{◌++◌, append-nil}
 use Prim.Native.Nat.{ℕ, ◌+◌, ◌-◌}
 use native.Mathlib.Omega.{arith}
 use lib.ListN.{drop, length-set}
+use Rattle.bits.specs.Bit.{Bits}
 use Rattle.voice_path_rules.specs.Path.{walk}
+use Rattle.voice_path_rules.proofs.Walked.{walk_bits}
 use Rattle.voice_path.specs.Rows.{kept}
 use Rattle.voice_path.proofs.Rows.{trace_more}
 use Rattle.voice_path.proofs.trace.Goals as goal
 
 pub loop-t-init : goal.loop-t-init
-loop-t-init c = (omega arith, omega arith, refl, append-nil _)
+loop-t-init c = (omega arith, refl, append-nil _)
 
 pub loop-t-preserved : goal.loop-t-preserved
 unfolding kept
@@ -21,12 +23,19 @@ loop-t-preserved c =
     let e : c.survivor_bit.result ≡ kept rows n l.state = c.survivor_bit.ensures.0 in
     let one : l.t ≡ n + 1 = omega arith in (
       omega arith,
-      omega arith,
-      simp length-set v.2,
+      simp length-set v.1,
       rw e
-          (trace_more (kept rows) n l.state l.found (omega arith)
-          ∙ subst (λ (m : ℕ). walk (kept rows) m l.state ++ drop m l.found ≡ walk (kept rows) 94 0) one v.3),
+          (trace_more (kept rows) n l.state l.bits (omega arith)
+          ∙ subst (λ (m : ℕ). walk (kept rows) m l.state ++ drop m l.bits ≡ walk (kept rows) 94 0) one v.2),
     )
+
+pub invariant_of-result : goal.invariant_of-result
+unfolding walk
+invariant_of-result c =
+    let l = c.loop-t in
+    let rows = c.args.survivors in
+    let none : l.t ≡ 0 = omega arith in
+    record { each = subst Bits (sym (subst (λ (m : ℕ). walk (kept rows) m l.state ++ drop m l.bits ≡ walk (kept rows) 94 0) none l.invariant.2)) (walk_bits (kept rows) 94 0) }
 
 pub returns : goal.returns
 unfolding walk
@@ -34,31 +43,4 @@ returns c =
     let l = c.loop-t in
     let rows = c.args.survivors in
     let none : l.t ≡ 0 = omega arith in
-    subst (λ (m : ℕ). walk (kept rows) m l.state ++ drop m l.found ≡ walk (kept rows) 94 0) none l.invariant.3
-
-pub overflow_sub-t : goal.overflow_sub-t
-overflow_sub-t c = omega arith
-
-pub overflow_cast-found : goal.overflow_cast-found
-overflow_cast-found c = omega arith
-
-pub bounds-found-t : goal.bounds-found-t
-bounds-found-t c = omega arith
-
-pub offset_bounds-survivors-t : goal.offset_bounds-survivors-t
-offset_bounds-survivors-t c = omega arith
-
-pub bounds-survivors-t : goal.bounds-survivors-t
-bounds-survivors-t c = omega arith
-
-pub survivor_bit-requires : goal.survivor_bit-requires
-survivor_bit-requires c = omega arith
-
-pub overflow_mul-state : goal.overflow_mul-state
-overflow_mul-state c = omega arith
-
-pub overflow_add-state : goal.overflow_add-state
-overflow_add-state c = omega arith
-
-pub loop-t-smaller : goal.loop-t-smaller
-loop-t-smaller c = omega arith
+    subst (λ (m : ℕ). walk (kept rows) m l.state ++ drop m l.bits ≡ walk (kept rows) 94 0) none l.invariant.2

@@ -1,4 +1,3 @@
-use Prim.Native.Nat.{◌-◌}
 use native.Mathlib.Omega.{arith}
 use Rattle.protected_rules.specs.Convolution.{parity_of}
 use Rattle.voice_path_steps.specs.Steps.{pair_of}

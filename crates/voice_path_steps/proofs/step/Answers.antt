@@ -13,7 +13,7 @@ pub loop-prior-init : goal.loop-prior-init
 loop-prior-init c = (omega arith, refl, refl, (λ s h. absurd (omega arith)), (λ s h. absurd (omega arith)))
 
 pub differ-d-requires : goal.differ-d-requires
-differ-d-requires c = record { fact_1 = c.requires.pairs_value; fact_2 = omega arith; fact_3 = c.requires.weighed }
+differ-d-requires c = record { within = omega arith; weighed = c.requires.weighed }
 
 pub overflow_sub-seen : goal.overflow_sub-seen
 overflow_sub-seen c =

@@ -1,5 +1,5 @@
 use mathlib.Core.Path.{◌≡◌}
-use Prim.Native.Nat.{ℕ, ◌*◌, ◌-◌, ◌≤◌, ◌<◌}
+use Prim.Native.Nat.{ℕ, ◌*◌, ◌≤◌, ◌<◌}
 use lib.ListN.{get_or, length}
 use Rattle.voice_path_rules.specs.Path.{arrive, survivor, weigh}
 use Rattle.voice_path_steps.proofs.step.Given as goal
@@ -11,6 +11,3 @@ invariant-loop-prior l =
     × (length l.chosen ≡ 256)
     × ((s : ℕ) → s < 2 * l.prior → get_or l.next s 0 ≡ arrive (λ (i : ℕ). get_or l.costs i 0) (weigh l.seen) s)
     × ((s : ℕ) → s < 2 * l.prior → get_or l.chosen s 0 ≡ survivor (λ (i : ℕ). get_or l.costs i 0) (weigh l.seen) s)
-
-abbrev pub decreases-loop-prior : goal.decreases-loop-prior
-decreases-loop-prior l = 128 - l.prior

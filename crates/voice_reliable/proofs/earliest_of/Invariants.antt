@@ -1,10 +1,7 @@
 use mathlib.Core.Path.{◌≡◌}
-use Prim.Native.Nat.{◌-◌, ◌≤◌, ◌<◌}
+use Prim.Native.Nat.{◌≤◌, ◌<◌}
 use Rattle.voice_rules.specs.Soft.{earliest}
 use Rattle.voice_reliable.proofs.earliest_of.Given as goal
 
 abbrev pub invariant-loop-n : goal.invariant-loop-n
 invariant-loop-n l = (l.n ≤ 14) × ((l.best ≡ earliest l.keys l.n) × (l.best < 14))
-
-abbrev pub decreases-loop-n : goal.decreases-loop-n
-decreases-loop-n l = 14 - l.n

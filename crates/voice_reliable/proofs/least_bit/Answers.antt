@@ -1,5 +1,5 @@
 use mathlib.Core.Path.{◌≡◌, ap, ap₂, ◌∙◌}
-use Prim.Native.Nat.{ℕ, ◌+◌, ◌-◌, ◌*◌, ◌≤◌, min}
+use Prim.Native.Nat.{ℕ, ◌+◌, ◌*◌, ◌≤◌, min}
 use native.Mathlib.Omega.{arith}
 use Rattle.voice_rules.specs.Soft.{reliability, least}
 use Rattle.voice_reliable.proofs.Orders.{least_more, least_none}
@@ -21,7 +21,7 @@ reliability_of-requires c = (c.requires.0, omega (arith, c.requires.1, c.loop-j-
 pub loop-j-preserved : goal.loop-j-preserved
 loop-j-preserved c =
     let l = c.loop-j in
-    (search rules, c.less_reliable-key.ensures ∙ ap₂ min l.invariant.1 c.reliability_of.ensures ∙ least_more l.j (λ i. reliability c.args.reliabilities.now (8 * (28 + c.args.b) + i)))
+    (search rules, c.min-key.ensures ∙ ap₂ min l.invariant.1 c.reliability_of.ensures ∙ least_more l.j (λ i. reliability c.args.reliabilities.now (8 * (28 + c.args.b) + i)))
 
 pub returns : goal.returns
 returns c =

@@ -1,6 +1,6 @@
 use mathlib.Core.Path.{◌≡◌, refl, sym, ap, ap₂, ◌∙◌}
 use mathlib.Core.List.{List}
-use Prim.Native.Nat.{ℕ, ◌-◌}
+use Prim.Native.Nat.{ℕ}
 use lib.ListN.{length, set, length-set}
 use Rattle.bits.proofs.Filling.{filled_none, filled_more, filled_all}
 use Rattle.voice_rules.specs.Soft.{earliest}
@@ -14,9 +14,6 @@ loop-i-init c =
     let e : length k ≡ 14 = search rules in
     (e, (left_none k, filled_none _ _ _ refl))
 
-pub narrow-requires : goal.narrow-requires
-narrow-requires c = c.earliest_of-p.ensures.1
-
 pub loop-i-preserved : goal.loop-i-preserved
 loop-i-preserved c =
     let l = c.loop-i in
@@ -26,7 +23,7 @@ loop-i-preserved c =
       simp length-set l.invariant.0,
       (
         ap₂ (λ (m : List ℕ) (q : ℕ). set m q 256) e p ∙ left_more k l.i,
-        filled_more (search rules) l.invariant.1.1 (c.narrow.ensures ∙ p),
+        filled_more (search rules) l.invariant.1.1 (p),
       ),
     )
 

@@ -1,20 +1,9 @@
-use mathlib.Core.Path.{refl}
-use Prim.Native.Nat.{◌-◌}
-use native.Mathlib.Omega.{arith}
-use Rattle.bits.proofs.Filling.{filled_none, filled_more, filled_all}
-use Rattle.voice_rules.specs.Soft.{weights_of}
-use borrow.Author.Rules.{rules}
+use Rattle.std.proofs.Common.{rules}
+use Rattle.protected_rules.specs.Word.{coded_place}
+use Rattle.protected_rules.proofs.Arrays.{made_by}
+use Rattle.voice_rules.specs.Soft.{reliability, weights_of}
 use Rattle.voice_reliable.proofs.weights_of.Goals as goal
-
-pub loop-m-init : goal.loop-m-init
-loop-m-init c = filled_none _ _ _ refl
-
-pub reliability_of-requires : goal.reliability_of-requires
-reliability_of-requires c = (c.requires, omega (arith, c.loop-m-test.true))
-
-pub loop-m-preserved : goal.loop-m-preserved
-loop-m-preserved c = let l = c.loop-m in filled_more (search rules) l.invariant c.reliability_of.ensures
 
 pub returns : goal.returns
 unfolding weights_of
-returns c = let l = c.loop-m in filled_all (search rules) l.invariant
+returns c = made_by _ _ _ (λ m. reliability c.args.reliabilities.now (coded_place m)) (λ i y q h e. search (rules, e)) _ c.from_fn.ensures.items

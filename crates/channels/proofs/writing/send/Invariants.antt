@@ -1,10 +1,7 @@
--- `send`: before each call some bytes are left; the turns are counted down.
+-- `send`: before each call some bytes are left.
 -- Assumes nothing.
 use Rattle.std.proofs.Common.{◌<◌, length}
 use Rattle.channels.proofs.writing.send.Given as goal
 
-abbrev pub invariant-loop-turns : goal.invariant-loop-turns
-invariant-loop-turns g l = l.done < length l.bytes
-
-abbrev pub decreases-loop-turns : goal.decreases-loop-turns
-decreases-loop-turns g l = l.turns
+abbrev pub invariant-loop : goal.invariant-loop
+invariant-loop g l = l.done < length l.bytes

@@ -1,6 +1,5 @@
 use borrow.Author.Rules.{rules}
 use mathlib.Core.Path.{refl}
-use Prim.Native.Nat.{◌-◌}
 use Rattle.bits.proofs.Filling.{filled_none, filled_more, filled_all}
 use Rattle.coding.proofs.scrambling.all_turned.Goals as goal
 

@@ -1,4 +1,3 @@
-use Prim.Native.Nat.{◌-◌}
 use lib.ListN.{get_or}
 use Rattle.bits.proofs.Filling.{Filled}
 use Rattle.coding_rules.specs.Sequence.{turned_byte}
@@ -6,6 +5,3 @@ use Rattle.coding.proofs.scrambling.all_turned.Given as goal
 
 abbrev pub invariant-loop-k : goal.invariant-loop-k
 invariant-loop-k l = Filled l.out 48 (λ i. turned_byte (get_or l.envelope i 0)) l.k
-
-abbrev pub decreases-loop-k : goal.decreases-loop-k
-decreases-loop-k l = 48 - l.k

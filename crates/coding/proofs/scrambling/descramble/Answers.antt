@@ -1,21 +1,19 @@
-use borrow.Author.Tests.{eq-eqb, ne_eqb}
+use Rattle.std.proofs.Common.{◌∙◌, sym}
 use Rattle.coding_rules.specs.Calls.{size_answer, after_descramble}
 use Rattle.coding.proofs.scrambling.descramble.Goals as goal
 
-pub returns-then-envelope-ne48 : goal.returns-then-envelope-ne48
-unfolding size_answer after_descramble
-returns-then-envelope-ne48 c = let no = ne_eqb _ _ c.if-envelope-ne48.true in record { value = simp no; leaves = simp no }
+pub returns-then-not-sized-clause-value : goal.returns-then-not-sized-clause-value
+unfolding size_answer
+returns-then-not-sized-clause-value c = simp (sym c.sized.ensures ∙ c.if-not-sized.true)
 
-pub returns-then-word-ne42 : goal.returns-then-word-ne42
-unfolding size_answer after_descramble
-returns-then-word-ne42 c =
-    let yes₁ = eq-eqb _ _ c.if-envelope-ne48.false in
-    let no = ne_eqb _ _ c.if-word-ne42.true in
-    record { value = simp (yes₁, no); leaves = simp (yes₁, no) }
+pub returns-then-not-sized-clause-leaves : goal.returns-then-not-sized-clause-leaves
+unfolding after_descramble
+returns-then-not-sized-clause-leaves c = simp (sym c.sized.ensures ∙ c.if-not-sized.true)
 
-pub returns : goal.returns
-unfolding size_answer after_descramble
-returns c =
-    let yes₁ = eq-eqb _ _ c.if-envelope-ne48.false in
-    let yes₂ = eq-eqb _ _ c.if-word-ne42.false in
-    record { value = simp (yes₁, yes₂); leaves = simp (yes₁, yes₂) c.write_word.ensures }
+pub returns-clause-value : goal.returns-clause-value
+unfolding size_answer
+returns-clause-value c = simp (sym c.sized.ensures ∙ c.if-not-sized.false)
+
+pub returns-clause-leaves : goal.returns-clause-leaves
+unfolding after_descramble
+returns-clause-leaves c = simp (sym c.sized.ensures ∙ c.if-not-sized.false) c.write_word.ensures

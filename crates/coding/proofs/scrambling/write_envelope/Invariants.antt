@@ -1,10 +1,10 @@
-use Prim.Native.Nat.{◌-◌}
+use Rattle.std.proofs.Common.{◌+◌, ◌*◌}
 use Rattle.bits.proofs.Filling.{Filled}
 use Rattle.coding_rules.specs.Scramble.{envelope_byte}
 use Rattle.coding.proofs.scrambling.write_envelope.Given as goal
 
-abbrev pub invariant-loop-k : goal.invariant-loop-k
-invariant-loop-k l = Filled l.envelope 48 (envelope_byte l.word) l.k
+abbrev pub invariant-loop-segment : goal.invariant-loop-segment
+invariant-loop-segment l = Filled l.envelope 48 (envelope_byte l.word) (16 * l.segment)
 
-abbrev pub decreases-loop-k : goal.decreases-loop-k
-decreases-loop-k l = 48 - l.k
+abbrev pub invariant-loop-j : goal.invariant-loop-j
+invariant-loop-j l = Filled l.envelope 48 (envelope_byte l.word) (16 * l.segment + 2 + l.j)

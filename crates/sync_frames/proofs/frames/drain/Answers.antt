@@ -1,22 +1,16 @@
 -- `sync_frames::frames::drain` meets its contract.
 -- Assumes nothing.
 use mathlib.Core.Path.{refl}
+use mathlib.Core.Logic.{inl, inr}
 use Rattle.sync_frames.proofs.Looks.{short, asleep}
-use Rattle.sync_frames.proofs.Drains.{few_of, ends, drained_as}
+use Rattle.sync_frames.proofs.Drains.{rests}
 use Rattle.sync_frames.proofs.frames.drain.Goals as goal
 
-pub returns-then-c : goal.returns-then-c
-returns-then-c c =
-    let xs = c.args.bits.now in
-    let ys = c.args.reliabilities.now in
-    let l = short xs c.args.c c.requires.fact_2 c.if-c.true c.if-c-ge-IN_PLACE_BITS.false in
-    drained_as _ _ _ _ _ _ _ _ _ _ _ c.nothing.ensures
-    (ends xs ys _ 0 2 _ c.requires.fact_2 (few_of _ _ _ l refl c.requires.fact_4) _ (l.same ys) refl)
-
-pub returns : goal.returns
-returns c =
-    let xs = c.args.bits.now in
-    let ys = c.args.reliabilities.now in
-    let l = asleep xs c.args.c c.requires.fact_2 c.if-c.false in
-    drained_as _ _ _ _ _ _ _ _ _ _ _ c.nothing-2.ensures
-    (ends xs ys _ 0 2 _ c.requires.fact_2 (few_of _ _ _ l refl c.requires.fact_4) _ (l.same ys) refl)
+pub returns-else-c : goal.returns-else-c
+returns-else-c c =
+    let k = c.args.c in
+    rests _ _ _ k c.requires.fact_2 c.requires.fact_4
+    (elim c.else-c.either [
+      | inl h ↦ short _ k c.requires.fact_2 h.0 h.1
+      | inr e ↦ asleep _ k c.requires.fact_2 e
+    ]) _ c.nothing.ensures

@@ -13,7 +13,7 @@ frame_at-requires c =
 
 pub returns-then-placed : goal.returns-then-placed
 returns-then-placed c =
-    resent _ _ _ _ _ _ _ _ _ _ (in_place_lem c.args.bits.now c.args.reliabilities.now c.args.c c.args.placed c.requires.fact_2 c.requires.fact_3 c.if-placed.true) (omega arith) (c.frame_at.ensures Stay (c.no_moves-moves.ensures ∙ none_moved))
+    resent _ _ _ _ _ _ _ _ _ _ (in_place_lem c.args.bits.now c.args.reliabilities.now c.args.c c.args.placed c.requires.fact_2 c.requires.fact_3 c.if-placed.true) (omega arith) (c.frame_at.ensures Stay (c.no_moves.ensures ∙ none_moved))
 
 pub front-d-requires : goal.front-d-requires
 front-d-requires c =
@@ -35,7 +35,7 @@ frame_at-requires-2 c =
     let m2n : (c.segment_at-q.result ≤ c.segment_at-p.result + 130) × (c.segment_at-p.result + 126 ≤ c.segment_at-q.result) = (omega (arith, m2.near.0), omega (arith, m2.near.1)) in record {
       fact_1 = c.requires.fact_1;
       fact_2 = can c.args.bits.now c.args.reliabilities.now c.args.c c.args.placed c.requires.fact_2 c.requires.fact_3 c.if-placed.false _ f _ _
-          (m1.by_index _ (omega (arith, f.long))) m1n (m2.by_index _ (omega (arith, f.long, m1n.0))) m2n _ c.shifted-e.ensures;
+          (m1.by_index _ (omega (arith, f.long))) m1n (m2.by_index _ (omega (arith, f.long, m1n.0))) m2n _ c.shifted.ensures;
       fact_3 = c.requires.fact_4;
     }
 
@@ -47,6 +47,6 @@ returns c =
     let m1n : (c.segment_at-p.result ≤ 130) × (126 ≤ c.segment_at-p.result) = (omega (arith, m1.near.0), omega (arith, m1.near.1)) in
     let m2n : (c.segment_at-q.result ≤ c.segment_at-p.result + 130) × (c.segment_at-p.result + 126 ≤ c.segment_at-q.result) = (omega (arith, m2.near.0), omega (arith, m2.near.1)) in
     resent _ _ _ _ _ _ _ _ _ _ (out_of_place c.args.bits.now c.args.reliabilities.now c.args.c c.args.placed c.requires.fact_2 c.requires.fact_3 c.if-placed.false _ f _ _
-    (m1.by_index _ (omega (arith, f.long))) m1n (m2.by_index _ (omega (arith, f.long, m1n.0))) m2n _ c.shifted-e.ensures)
+    (m1.by_index _ (omega (arith, f.long))) m1n (m2.by_index _ (omega (arith, f.long, m1n.0))) m2n _ c.shifted.ensures)
     (short c.args.bits.now c.args.reliabilities.now c.args.c c.args.placed c.requires.fact_2 c.requires.fact_3 c.if-placed.false _ f _ _
-    (m1.by_index _ (omega (arith, f.long))) m1n (m2.by_index _ (omega (arith, f.long, m1n.0))) m2n _ c.shifted-e.ensures) (c.frame_at-2.ensures _ (moved_so c.args.bits.now c.args.reliabilities.now c.args.c _ f c.segment_at-p.result c.segment_at-q.result _ c.moves_of-moves.ensures))
+    (m1.by_index _ (omega (arith, f.long))) m1n (m2.by_index _ (omega (arith, f.long, m1n.0))) m2n _ c.shifted.ensures) (c.frame_at-2.ensures _ (moved_so c.args.bits.now c.args.reliabilities.now c.args.c _ f c.segment_at-p.result c.segment_at-q.result _ c.moves_of-moves.ensures))

@@ -5,4 +5,4 @@ use Rattle.sync_frames.proofs.frames.nothing.Goals as goal
 
 pub returns : goal.returns
 unfolding heads_of
-returns c = rw c.no_head-none.ensures
+returns c = rw c.no_head.ensures

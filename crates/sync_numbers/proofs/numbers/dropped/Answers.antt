@@ -1,6 +1,6 @@
 -- `sync_numbers::numbers::dropped` meets its contract.
 -- Assumes nothing.
-use Prim.Native.Nat.{ℕ, ◌+◌, ◌-◌, ◌%◌, ◌≤◌, ◌<◌, min}
+use Prim.Native.Nat.{ℕ, ◌+◌, ◌-◌, ◌%◌, min}
 use mathlib.Core.Path.{◌≡◌, refl, ap, sym, ◌∙◌}
 use mathlib.Core.List.{List}
 use native.Mathlib.Omega.{arith}
@@ -23,26 +23,13 @@ like m h r o = record { held = h; reliabilities = r; restorable = o; figures = m
 alike : (m : State) (h h' r r' : List ℕ) (o o' : ℕ) → h ≡ h' → r ≡ r' → o ≡ o' → like m h r o ≡ like m h' r' o'
 alike m h h' r r' o o' p q s = cc
 
-least : (n : ℕ) → 2 < n → 2 ≡ min 2 n
-least n h = omega arith
-
-least' : (n : ℕ) → n ≤ 2 → n ≡ min 2 n
-least' n h = omega arith
-
-pub returns-then-passed-gt2 : goal.returns-then-passed-gt2
-unfolding pass like
-returns-then-passed-gt2 c =
-    let a = c.args.c in
-    let k = c.args.k in
-    let e : (a.first + (a.restorable + k - 2)) % 1155 % 1155 ≡ (a.first + (a.restorable + k - 2)) % 1155 = mod-mod (a.first + (a.restorable + k - 2)) 1155 in
-    let n : 2 + (a.pending - k) ≡ a.restorable + a.pending - (a.restorable + k - 2) = omega arith in
-    record { sound = record { first_in_lem = omega arith; restorable_few = omega arith; held_few = omega arith; taken_few = omega arith; tide = omega arith; grid = omega arith; synchronised_few = omega arith; slips_few = omega arith; failures_few = omega arith }; count = omega arith; pending = refl; same = λ xs ys. alike (view_of xs ys a) _ _ _ _ _ _ (held xs a.first a.restorable a.pending k _ _ e n) (held ys a.first a.restorable a.pending k _ _ e n) (least (a.restorable + k) (omega arith)) }
-
 pub returns : goal.returns
 unfolding pass like
 returns c =
     let a = c.args.c in
     let k = c.args.k in
-    let e : a.first % 1155 ≡ (a.first + (a.restorable + k - 2)) % 1155 = ap (λ (n : ℕ). n % 1155) (omega arith) in
-    let n : (a.restorable + k) + (a.pending - k) ≡ a.restorable + a.pending - (a.restorable + k - 2) = omega arith in
-    record { sound = record { first_in_lem = omega arith; restorable_few = omega arith; held_few = omega arith; taken_few = omega arith; tide = omega arith; grid = omega arith; synchronised_few = omega arith; slips_few = omega arith; failures_few = omega arith }; count = omega arith; pending = refl; same = λ xs ys. alike (view_of xs ys a) _ _ _ _ _ _ (held xs a.first a.restorable a.pending k _ _ e n) (held ys a.first a.restorable a.pending k _ _ e n) (least' (a.restorable + k) (omega arith)) }
+    let gone : c.saturating_sub.result ≡ a.restorable + k - 2 = c.saturating_sub.ensures in
+    let few : c.min.result ≡ min 2 (a.restorable + k) = omega (arith, c.min.ensures) in
+    let e : (a.first + c.saturating_sub.result) % 1155 % 1155 ≡ (a.first + (a.restorable + k - 2)) % 1155 = mod-mod (a.first + c.saturating_sub.result) 1155 ∙ ap (λ (n : ℕ). (a.first + n) % 1155) gone in
+    let n : c.min.result + (a.pending - k) ≡ a.restorable + a.pending - (a.restorable + k - 2) = omega arith in
+    record { sound = record { first_in_lem = omega arith; restorable_few = omega arith; held_few = omega arith; taken_few = omega arith; tide = omega arith; grid = omega arith; synchronised_few = omega arith; slips_few = omega arith; failures_few = omega arith }; count = omega arith; pending = refl; same = λ xs ys. alike (view_of xs ys a) _ _ _ _ _ _ (held xs a.first a.restorable a.pending k _ _ e n) (held ys a.first a.restorable a.pending k _ _ e n) few }

@@ -2,39 +2,32 @@
 -- Assumes nothing.
 use mathlib.Core.Path.{refl, ap, ◌∙◌}
 use native.Mathlib.Omega.{arith}
-use Prim.Native.Nat.{◌+◌, ◌-◌}
+use Prim.Native.Nat.{◌+◌}
 use Rattle.sync_rules.specs.Moves.{Move, moved, move_by, move_to}
 use Rattle.bits.proofs.Tests.{cond_yes, cond_no}
-use borrow.Author.Rules.{rules}
 use Rattle.sync_rings.proofs.markers.segment_at.Goals as goal
 
-pub returns-then-a : goal.returns-then-a
+pub returns-then-matches_at-clause-by_index : goal.returns-then-matches_at-clause-by_index
 unfolding moved move_to move_by
-returns-then-a c =
-    record { by_index = λ n h. ap (λ (v : Move). moved v c.args.at) (cond_yes _ _ _ _ (c.matches_at-a.ensures _ _ n refl (omega arith)) c.if-a.true); near = search rules }
+returns-then-matches_at-clause-by_index c =
+    λ n h. ap (λ (v : Move). moved v c.args.at) (cond_yes _ _ _ _ (c.matches_at.ensures _ _ n refl (omega arith)) c.if-matches_at.true)
 
-pub returns-then-b : goal.returns-then-b
+pub returns-then-matches_at-2-clause-by_index : goal.returns-then-matches_at-2-clause-by_index
 unfolding moved move_to move_by
-returns-then-b c = record {
-  by_index = λ n h. ap (λ (v : Move). moved v c.args.at) (cond_yes _ _ _ _ (c.matches_at-b.ensures _ (c.args.at + 2) n (omega arith) (omega arith)) c.if-b.true
-      ∙ cond_no _ _ _ _ (c.matches_at-a.ensures _ _ n refl (omega arith)) c.if-a.false);
-  near = search rules;
-}
+returns-then-matches_at-2-clause-by_index c =
+    λ n h. ap (λ (v : Move). moved v c.args.at) (cond_yes _ _ _ _ (c.matches_at-else-matches_at.ensures _ (c.args.at + 2) n (omega arith) (omega arith)) c.if-matches_at-2.true
+    ∙ cond_no _ _ _ _ (c.matches_at.ensures _ _ n refl (omega arith)) c.if-matches_at.false)
 
-pub returns-then-c : goal.returns-then-c
+pub returns-then-matches_at-3-clause-by_index : goal.returns-then-matches_at-3-clause-by_index
 unfolding moved move_to move_by
-returns-then-c c = record {
-  by_index = λ n h. ap (λ (v : Move). moved v c.args.at) (cond_yes _ _ _ _ (c.matches_at-c.ensures _ _ n refl (omega arith)) c.if-c.true
-      ∙ cond_no _ _ _ _ (c.matches_at-b.ensures _ (c.args.at + 2) n (omega arith) (omega arith)) c.if-b.false
-      ∙ cond_no _ _ _ _ (c.matches_at-a.ensures _ _ n refl (omega arith)) c.if-a.false);
-  near = search rules;
-}
+returns-then-matches_at-3-clause-by_index c =
+    λ n h. ap (λ (v : Move). moved v c.args.at) (cond_yes _ _ _ _ (c.matches_at-else-matches_at-2.ensures _ _ n refl (omega arith)) c.if-matches_at-3.true
+    ∙ cond_no _ _ _ _ (c.matches_at-else-matches_at.ensures _ (c.args.at + 2) n (omega arith) (omega arith)) c.if-matches_at-2.false
+    ∙ cond_no _ _ _ _ (c.matches_at.ensures _ _ n refl (omega arith)) c.if-matches_at.false)
 
-pub returns : goal.returns
+pub returns-else-matches_at-3-clause-by_index : goal.returns-else-matches_at-3-clause-by_index
 unfolding moved move_to move_by
-returns c = record {
-  by_index = λ n h. ap (λ (v : Move). moved v c.args.at) (cond_no _ _ _ _ (c.matches_at-c.ensures _ _ n refl (omega arith)) c.if-c.false
-      ∙ cond_no _ _ _ _ (c.matches_at-b.ensures _ (c.args.at + 2) n (omega arith) (omega arith)) c.if-b.false
-      ∙ cond_no _ _ _ _ (c.matches_at-a.ensures _ _ n refl (omega arith)) c.if-a.false);
-  near = search rules;
-}
+returns-else-matches_at-3-clause-by_index c =
+    λ n h. ap (λ (v : Move). moved v c.args.at) (cond_no _ _ _ _ (c.matches_at-else-matches_at-2.ensures _ _ n refl (omega arith)) c.if-matches_at-3.false
+    ∙ cond_no _ _ _ _ (c.matches_at-else-matches_at.ensures _ (c.args.at + 2) n (omega arith) (omega arith)) c.if-matches_at-2.false
+    ∙ cond_no _ _ _ _ (c.matches_at.ensures _ _ n refl (omega arith)) c.if-matches_at.false)

@@ -10,20 +10,18 @@ use Rattle.tail_rules.proofs.Loops.{erasure_more, erasure_end}
 use Rattle.tail_locators.proofs.erasures.erased_locator.Goals as goal
 
 pub loop-i-init : goal.loop-i-init
-loop-i-init c = (omega arith, erasure_end c.args.es.now (length c.args.es.now) (omega arith))
+loop-i-init c = erasure_end c.args.es.now (length c.args.es.now) (omega arith)
 
-pub overflow_sub-wide : goal.overflow_sub-wide
-overflow_sub-wide c = omega (arith, c.wide.ensures.0, c.requires.fact_3.at (c.loop-i.i - 1))
+pub overflow_sub-from : goal.overflow_sub-from
+overflow_sub-from c = omega (arith, c.requires.at (c.loop-i.i - 1))
 
 pub loop-i-preserved : goal.loop-i-preserved
 loop-i-preserved c = let es = c.args.es.now in
-    let up : c.loop-i.i - 1 + 1 ≡ c.loop-i.i = omega arith in (
-      omega arith,
-      c.corrected-more.ensures ∙ erasure_more es (c.loop-i.i - 1) c.loop-i.g _ (omega arith) (c.loop-i.invariant.1 ∙ ap (λ (k : ℕ). erasure_locator (drop k es)) (sym up))
-          (c.power_by-x.ensures ∙ ap (λ (k : ℕ). power (13 - k)) c.wide.ensures.0),
-    )
+    let up : c.loop-i.i - 1 + 1 ≡ c.loop-i.i = omega arith in
+    c.corrected-more.ensures ∙ erasure_more es (c.loop-i.i - 1) c.loop-i.g _ (omega arith) (c.loop-i.invariant ∙ ap (λ (k : ℕ). erasure_locator (drop k es)) (sym up))
+    (c.power-x.ensures ∙ ap (λ (k : ℕ). power (13 - k)) c.from.ensures)
 
 pub returns : goal.returns
 returns c = let l = c.loop-i in
-    let z : l.i ≡ 0 = omega (arith, c.loop-i-test.false) in
-    l.invariant.1 ∙ ap (λ (k : ℕ). erasure_locator (drop k c.args.es.now)) z
+    let z : l.i ≡ 0 = omega arith in
+    l.invariant ∙ ap (λ (k : ℕ). erasure_locator (drop k c.args.es.now)) z

@@ -1,13 +1,8 @@
 -- `tail_places::roots::marked` meets its contract.
 -- Assumes nothing.
-use mathlib.Core.Path.{◌≡◌}
-use Prim.Native.Nat.{ℕ, ◌-◌, ◌<◌, ◌≤◌}
-use lib.ListN.{length, get_or}
+use Rattle.bits.proofs.Changing.{Changing}
 use Rattle.tail_rules.specs.Steps.{mark_at}
 use Rattle.tail_places.proofs.roots.marked.Given as goal
 
 abbrev pub invariant-loop-p : goal.invariant-loop-p
-invariant-loop-p l = (l.p ≤ 14) × (length l.out ≡ 14) × ((k : ℕ) → k < l.p → get_or l.out k 0 ≡ mark_at l.es l.v k)
-
-abbrev pub decreases-loop-p : goal.decreases-loop-p
-decreases-loop-p l = 14 - l.p
+invariant-loop-p l = Changing 0 l.fn.v (mark_at l.es l.fn.v) l.p l.x-items

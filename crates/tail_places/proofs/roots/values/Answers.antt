@@ -1,28 +1,23 @@
 -- `tail_places::roots::values` meets its contract.
 -- Assumes nothing.
-use mathlib.Core.Path.{◌≡◌, refl, ◌∙◌}
-use Prim.Native.Nat.{◌+◌, ◌-◌}
+use mathlib.Core.Path.{refl, ap, ◌∙◌}
+use mathlib.Core.List.{List}
+use Prim.Native.Nat.{ℕ, ◌+◌}
 use native.Mathlib.Omega.{arith}
-use lib.ListN.{length-set}
-use Rattle.bits.proofs.Tabs.{is_tab}
-use Rattle.bits.proofs.Filling.{set_more}
+use Rattle.bits.proofs.Filling.{filled_none, filled_more, filled_all}
 use Rattle.field_rules.specs.Field.{power}
-use Rattle.tail_rules.specs.Steps.{eval_at}
+use Rattle.tail_rules.specs.Code.{value}
+use Rattle.tail_rules.proofs.Loops.{eval_reversed}
 use Rattle.tail_places.proofs.roots.values.Goals as goal
 
 pub loop-p-init : goal.loop-p-init
-loop-p-init c = (omega arith, refl, λ k l. absurd (omega (arith, l)))
+loop-p-init c = filled_none _ 14 _ refl
 
 pub loop-p-preserved : goal.loop-p-preserved
 loop-p-preserved c =
-    let l = c.loop-p in
-    let a = c.args in (
-      omega arith,
-      length-set l.out l.p _ ∙ l.invariant.1,
-      set_more l.out 0 (λ k x. x ≡ eval_at a.loc (power (242 + k))) l.p _ (omega (arith, l.invariant.1)) l.invariant.2 c.evaluate.ensures,
-    )
+    let z = power (242 + c.loop-p.p) in
+    filled_more (omega arith) c.loop-p.invariant
+    (c.horner.ensures ∙ ap (λ (l : List ℕ). value 0 l z) c.reverse.ensures.after ∙ eval_reversed c.args.loc z)
 
 pub returns : goal.returns
-returns c =
-    let l = c.loop-p in
-    is_tab l.out 14 _ l.invariant.1 (λ i h. l.invariant.2 i (omega (arith, h, c.loop-p-test.false)))
+returns c = filled_all (omega arith) c.loop-p.invariant

@@ -1,23 +1,19 @@
 -- `tail_places::syndromes::horner` meets its contract.
 -- Assumes nothing.
-use mathlib.Core.Path.{refl, ◌∙◌}
-use Prim.Native.Nat.{◌-◌}
+use mathlib.Core.Path.{◌∙◌}
 use native.Mathlib.Omega.{arith}
 use Rattle.field_rules.specs.Field.{power}
 use Rattle.tail_rules.proofs.Loops.{horner_more, horner_end}
 use Rattle.tail_places.proofs.syndromes.horner.Goals as goal
 
-pub loop-i-init : goal.loop-i-init
-loop-i-init c = (omega arith, omega (arith, c.well_formed.1.1.0), refl)
-
-pub loop-i-preserved : goal.loop-i-preserved
-loop-i-preserved c =
-    let l = c.loop-i in
+pub loop-c-preserved : goal.loop-c-preserved
+loop-c-preserved g c =
+    let l = c.loop-c in
     let a = c.args in
-    (omega arith, l.invariant.1, horner_more a.t l.i l.v (power a.e) _ (omega (arith, l.invariant.1)) c.times_power_by.ensures ∙ l.invariant.2)
+    horner_more a.coefficients.now l.c-index l.v (power a.e) _ (omega arith) c.times_power.ensures ∙ l.invariant
 
 pub returns : goal.returns
-returns c =
-    let l = c.loop-i in
+returns g c =
+    let l = c.loop-c in
     let a = c.args in
-    horner_end a.t l.i l.v (power a.e) (omega (arith, l.invariant.1)) ∙ l.invariant.2
+    horner_end a.coefficients.now l.c-index l.v (power a.e) (omega arith) ∙ l.invariant

@@ -1,12 +1,13 @@
--- what is to stand in row j
+-- `tail_solving::elimination::clear` meets its contract.
+-- Assumes nothing.
 use mathlib.Core.Path.{◌≡◌, refl, sym, subst, ◌∙◌}
 use mathlib.Core.List.{List, []}
-use Prim.Native.Nat.{ℕ, ◌+◌, ◌-◌, ◌<◌}
+use Prim.Native.Nat.{ℕ, ◌+◌, ◌<◌}
 use native.Mathlib.Omega.{arith}
 use native.Mathlib.Decide.{ℕ_discrete, dec_lt}
-use lib.ListN.{get_or}
-use Rattle.bits.proofs.Changing.{Changing, none, same, store}
-use Rattle.tail_rules.specs.Steps.{add_scaled}
+use lib.ListN.{length, get_or}
+use Rattle.bits.proofs.Changing.{Changing, same, store}
+use Rattle.field_rules.specs.Field.{add_scaled}
 use Rattle.tail_solving.proofs.elimination.clear.Invariants.{row_by, row_at}
 use Rattle.tail_solving.proofs.elimination.clear.Goals as goal
 use Rattle.tail_solving.proofs.elimination.clear.Goals.{else-i-col, then-i-col}
@@ -34,12 +35,9 @@ pivoted m col i out f = go (dec_lt col i)
     go (yes l) = f.done col l ∙ row_pivot m col col refl
     go (no l) = f.todo col (omega (arith, l))
 
-pub loop-i-init : goal.loop-i-init
-loop-i-init c = (omega arith, refl, omega (arith, c.well_formed.1.1.0), none [] _ _)
-
 pub returns : goal.returns
 returns c =
-    let f = c.loop-i.invariant.3 in
+    let f = c.loop-i.invariant in
     record {
       long = f.len;
       pivot = pivoted _ _ _ _ f;
@@ -50,15 +48,12 @@ pub loop-i-preserved : goal.loop-i-preserved
 loop-i-preserved c =
     let m = c.args.m in
     let col = c.args.col in
-    let i = c.loop-i.i in (
-      omega arith,
-      refl,
-      c.loop-i.invariant.2,
-      elim c.if-i-col.branch [
-        | then-i-col w ↦ subst (λ (o : List (List ℕ)). Changing [] m (row_at m col) (i + 1) o) (sym w.out-is)
-            (store [] _ _ i c.loop-i.out w.add_scaled.result c.loop-i.invariant.3 (omega (arith, c.loop-i.invariant.2))
-            (w.add_scaled.ensures ∙ sym (row_other m col i w.if-i-col.true)))
-        | else-i-col w ↦ subst (λ (o : List (List ℕ)). Changing [] m (row_at m col) (i + 1) o) (sym w.out-is)
-            (same [] _ _ i c.loop-i.out c.loop-i.invariant.3 (sym (row_pivot m col i w.if-i-col.false)))
-      ],
-    )
+    let i = c.loop-i.i in
+    let long : length m ≡ 6 = omega (arith, c.well_formed.1.0) in
+    elim c.if-i-col.branch [
+      | then-i-col w ↦ subst (λ (o : List (List ℕ)). Changing [] m (row_at m col) (i + 1) o) (sym w.out-is)
+          (store [] _ _ i c.loop-i.out w.add_scaled.result c.loop-i.invariant (omega arith)
+          (w.add_scaled.ensures ∙ sym (row_other m col i w.if-i-col.true)))
+      | else-i-col w ↦ subst (λ (o : List (List ℕ)). Changing [] m (row_at m col) (i + 1) o) (sym w.out-is)
+          (same [] _ _ i c.loop-i.out c.loop-i.invariant (sym (row_pivot m col i w.if-i-col.false)))
+    ]

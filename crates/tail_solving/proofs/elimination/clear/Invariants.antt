@@ -1,11 +1,12 @@
--- what is to stand in row j
+-- `tail_solving::elimination::clear` meets its contract.
+-- Assumes nothing.
 use mathlib.Core.Path.{◌≡◌}
 use mathlib.Core.List.{List, []}
-use Prim.Native.Nat.{ℕ, ◌-◌, ◌≤◌}
+use Prim.Native.Nat.{ℕ}
 use native.Mathlib.Decide.{ℕ_discrete}
-use lib.ListN.{length, get_or}
+use lib.ListN.{get_or}
 use Rattle.bits.proofs.Changing.{Changing}
-use Rattle.tail_rules.specs.Steps.{add_scaled}
+use Rattle.field_rules.specs.Field.{add_scaled}
 use Rattle.tail_solving.proofs.elimination.clear.Given as goal
 
 -- what is to stand in row j
@@ -17,7 +18,4 @@ unfoldable pub row_at : List (List ℕ) → ℕ → ℕ → List ℕ
 row_at m col j = row_by m col j (ℕ_discrete j col)
 
 abbrev pub invariant-loop-i : goal.invariant-loop-i
-invariant-loop-i l = (l.i ≤ l.count) × (l.pivot ≡ get_or l.m l.col []) × (length l.m ≡ 6) × Changing [] l.m (row_at l.m l.col) l.i l.out
-
-abbrev pub decreases-loop-i : goal.decreases-loop-i
-decreases-loop-i l = l.count - l.i
+invariant-loop-i l = Changing [] l.m (row_at l.m l.col) l.i l.out

@@ -1,22 +1,33 @@
 -- `tail_solving::elimination::eliminated` meets its contract.
 -- Assumes nothing.
+use mathlib.Core.Path.{◌≡◌, subst}
+use mathlib.Core.List.{List, []}
+use Prim.Native.Nat.{ℕ, ◌<◌}
 use native.Mathlib.Omega.{arith}
-use Rattle.tail_rules.proofs.Eliminating.{pivot_in, eliminated}
+use lib.ListN.{length, get_or, set, length-set}
+use lib.Seq.{get_or-set_same, get_or-set_other}
+use Rattle.std.specs.declared.option.Option.{Option}
+use Rattle.field_rules.specs.Field.{quotient}
+use Rattle.tail_rules.specs.Steps.{entry, scale_by, ScaledRow, PivotAt}
+use Rattle.tail_rules.proofs.Eliminating.{eliminated}
 use Rattle.tail_solving.proofs.elimination.eliminated.Goals as goal
 
-pub swap-a-requires : goal.swap-a-requires
-swap-a-requires c =
-    let low = pivot_in c.args.count c.args.col c.pivot-i.result c.args.m c.requires.fact_5 c.pivot-i.ensures in
-    record { fact_1 = omega (arith, c.requires.fact_3); fact_2 = omega (arith, low, c.requires.fact_3) }
+-- the row is put back divided
+put_back : (m : List (List ℕ)) (col : ℕ) (row : List ℕ) → col < length m → entry m col col < 256
+    → row ≡ scale_by (quotient 1 (entry m col col)) (get_or m col []) → ScaledRow m col (set m col row)
+put_back m col row h b e =
+    let same : get_or (set m col row) col [] ≡ row = get_or-set_same m col row [] h in
+    record { long = length-set m col row; byte = b; row = cc; rest = λ i n. get_or-set_other m col i row [] n }
 
-pub clear-requires : goal.clear-requires
-clear-requires c =
-    record { fact_1 = c.requires.fact_1; fact_2 = c.requires.fact_2; fact_3 = omega (arith, c.requires.fact_3); fact_4 = omega (arith, c.requires.fact_3) }
+pub swapped-a-requires-clause-fact_2 : goal.swapped-a-requires-clause-fact_2
+swapped-a-requires-clause-fact_2 c = omega (arith, (c.pivot.ensures.live c.unwrap-i.result c.unwrap-i.ensures).1, c.requires.fact_1)
 
 pub returns : goal.returns
 returns c =
-    let p = c.pivot-i in
-    eliminated c.args.count c.args.col p.result c.args.m c.swap-a.result c.unit_row-b.result c.clear.result
-    c.requires.fact_3.0 c.requires.fact_4 p.ensures
-    (pivot_in c.args.count c.args.col p.result c.args.m c.requires.fact_5 p.ensures)
-    c.swap-a.ensures c.unit_row-b.ensures c.clear.ensures
+    let m = c.args.m in
+    let col = c.args.col in
+    let a = c.swapped-a.result in
+    let long : col < length a = omega (arith, c.swapped-a.ensures.long, c.requires.fact_1, c.requires.fact_2.long) in
+    eliminated c.args.count col c.unwrap-i.result m a _ c.clear.result c.requires.fact_1.0 c.requires.fact_2
+    (subst (λ (f : Option ℕ). PivotAt m col c.args.count f) c.unwrap-i.ensures c.pivot.ensures)
+    c.swapped-a.ensures (put_back a col c.divided-unit.result long c.divided-unit.ensures.byte c.divided-unit.ensures.row) c.clear.ensures

@@ -2,12 +2,9 @@
 -- Assumes nothing.
 use mathlib.Core.Path.{◌≡◌}
 use mathlib.Core.List.{[]}
-use Prim.Native.Nat.{ℕ, ◌-◌, ◌<◌, ◌≤◌}
+use Prim.Native.Nat.{ℕ, ◌<◌, ◌≤◌}
 use lib.ListN.{get_or}
 use Rattle.tail_solving.proofs.elimination.pivot.Given as goal
 
 abbrev pub invariant-loop-i : goal.invariant-loop-i
-invariant-loop-i l = (l.col ≤ l.i) × (l.col < 6) × (l.count ≤ 6) × ((k : ℕ) → l.col ≤ k → k < l.i → get_or (get_or l.m k []) l.col 0 ≡ 0)
-
-abbrev pub decreases-loop-i : goal.decreases-loop-i
-decreases-loop-i l = l.count - l.i
+invariant-loop-i l = (k : ℕ) → l.col ≤ k → k < l.i → get_or (get_or l.m k []) l.col 0 ≡ 0

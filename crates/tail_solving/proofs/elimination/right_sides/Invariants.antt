@@ -2,12 +2,9 @@
 -- Assumes nothing.
 use mathlib.Core.Path.{◌≡◌}
 use mathlib.Core.List.{[]}
-use Prim.Native.Nat.{ℕ, ◌-◌, ◌<◌, ◌≤◌}
+use Prim.Native.Nat.{ℕ, ◌<◌}
 use lib.ListN.{length, get_or}
 use Rattle.tail_solving.proofs.elimination.right_sides.Given as goal
 
 abbrev pub invariant-loop-i : goal.invariant-loop-i
-invariant-loop-i l = (l.i ≤ l.count) × (l.count ≤ 6) × (length l.out ≡ 6) × ((k : ℕ) → k < l.i → (get_or l.out k 0 ≡ get_or (get_or l.m k []) l.count 0) × (get_or l.out k 0 < 256))
-
-abbrev pub decreases-loop-i : goal.decreases-loop-i
-decreases-loop-i l = l.count - l.i
+invariant-loop-i l = (length l.out ≡ 6) × ((k : ℕ) → k < l.i → (get_or l.out k 0 ≡ get_or (get_or l.m k []) l.count 0) × (get_or l.out k 0 < 256))

@@ -1,26 +1,20 @@
-use mathlib.Core.Path.{◌≡◌, ap, ◌∙◌}
-use Prim.Native.Nat.{ℕ, ◌+◌, ◌-◌}
-use native.Mathlib.Omega.{arith}
-use lib.Bits.{bit_xor}
-use lib.Count.{ones}
+use Rattle.std.proofs.Common.{◌+◌, ◌≤◌, ◌∙◌, arith, rules}
+use lib.Bits.{bit_xor, xor_lt}
+use lib.Count.{ones, ones-le}
 use lib.ListN.{get_or}
-use Rattle.bits.specs.Bit.{sum}
-use Rattle.bits.proofs.Turns.{sum_none, sum_turn}
+use Rattle.bits.proofs.Sums.{sum_ext}
 use Rattle.voice_rules.specs.Candidate.{bits_apart}
-use borrow.Author.Rules.{rules}
 use Rattle.voice_words.proofs.distances.bits_apart.Goals as goal
 
-pub loop-i-init : goal.loop-i-init
-loop-i-init c = (search rules, (search rules, sum_none _))
-
-pub loop-i-preserved : goal.loop-i-preserved
-loop-i-preserved c =
-    let l = c.loop-i in
-    (search rules, (search rules, sum_turn (λ j. ones (bit_xor (get_or c.args.a.now (c.args.from + j) 0) (get_or c.args.b.now (c.args.from + j) 0))) l.i l.invariant.1.1 c.byte_apart-d.ensures.0))
+pub summed-requires-clause-small : goal.summed-requires-clause-small
+summed-requires-clause-small c i d h e =
+    let a = get_or c.args.a.now (c.args.from + i) 0 in
+    let b = get_or c.args.b.now (c.args.from + i) 0 in
+    let few : ones (bit_xor a b) ≤ 8 = ones-le 8 (bit_xor a b) (xor_lt 8 a b (search rules) (search rules)) in
+    search (rules, e, few)
 
 pub returns : goal.returns
 unfolding bits_apart
 returns c =
-    let l = c.loop-i in
-    let e : l.i ≡ c.args.n = omega arith in
-    (l.invariant.1.1 ∙ ap (λ (k : ℕ). sum k (λ j. ones (bit_xor (get_or c.args.a.now (c.args.from + j) 0) (get_or c.args.b.now (c.args.from + j) 0)))) e, search rules)
+    let s = c.summed.ensures in
+    (s.2 ∙ sum_ext c.args.n s.0 _ (λ i h. search (rules, s.1 i h)), omega (arith, s.3))

@@ -1,2 +1,0 @@
-pub mod Shelves
-pub mod Yields
