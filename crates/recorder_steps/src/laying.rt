@@ -56,7 +56,8 @@ fn lay_frames<L: Lays>(
 }
 
 // Feeds the next dibits, up to the first push that sends frames or is refused, and lays what is made of its frames at the front of `out`. The room is the
-// synchroniser's.
+// synchroniser's. It stays a call, since the loop over the dibits is slower inside the loop over the pieces.
+#[inline(never)]
 fn step_in<L: Lays>(
     lays: &L,
     r: Recorder,

@@ -14,7 +14,7 @@ ghost use Rattle.sync_rules.specs.Pushes.{quiet};
 
 use bits::Refusal;
 use sync_counts::{net_slip_of, slips_of};
-use sync_inputs::{Given, Source, answer_to, hard_given, made, soft_given};
+use sync_inputs::{Given, Source, answer_to, hard_given, soft_given};
 use sync_pushes::{brought, enough, quiet_of};
 use sync_rules::{Head, MOST_HELD, StreamFigures};
 use sync_steps::{Drained, Numbers, feed_into, nothing, sends};
@@ -30,6 +30,7 @@ pub struct Synchroniser {
 }
 
 // Says what a push answers, how many frames went out, their heads (zero behind them), and the next synchroniser.
+// kept: a rule of the project (no heap, fixed memory): the count stands beside one array of the three heads that there can be.
 #[derive(Clone, Copy)]
 pub struct Pushed {
     pub answer: Result<(), Refusal>,
@@ -215,7 +216,7 @@ fn one_push(s: Synchroniser, given: Given, room: &mut [u8]) -> Pushed
 {
     let answer = answer_to(s.numbers.figures.taken, given.dibit, room.len());
     let mut next = s;
-    if made(answer) == 0 {
+    if answer.is_err() {
         return handed(answer, nothing(s.numbers), next);
     }
     let one = brought(&mut next.bits, &mut next.reliabilities, s.numbers, given);

@@ -25,6 +25,7 @@ pub struct Framed {
 }
 
 // The frames that went out, and the numbers that they leave.
+// kept: a rule of the project (no heap, fixed memory): the count stands beside one array of the three heads that there can be.
 #[derive(Clone, Copy)]
 pub struct Drained {
     pub numbers: Numbers,

@@ -1,9 +1,9 @@
 -- The answer to a push, and what a push does that is refused or taken.
 -- Assumes nothing.
-use Rattle.std.proofs.Common.{Result, Ok, Err}
+use Rattle.std.proofs.Common.{Result, Ok, Err, is_err}
 use mathlib.Core.Path.{◌≡◌, refl, sym, ap, ◌∙◌, subst}
 use mathlib.Core.List.{List}
-use mathlib.Core.Bool.{Bool, true, false}
+use mathlib.Core.Bool.{Bool, true, false, true≢false}
 use Prim.Native.Nat.{ℕ, ◌≤◌, ◌<◌, ◌^◌}
 use native.Mathlib.Omega.{arith}
 use borrow.Author.Tests.{ltb-true, ltb-false, leb-true, leb-false}
@@ -52,6 +52,18 @@ pub taking : (room dibit taken : ℕ) (a : Result Unit Refusal) → a ≡ answer
 taking room dibit taken a e h =
     let m : takes (answer_by room dibit taken) ≡ 0 → ⊥ = λ z. h (made_none (answer_by room dibit taken) a (sym e) z) in
     record { good = good room dibit taken m (ltb 3 dibit) refl; fits = fits room dibit taken m (ltb room 1296) refl; early = early room dibit taken m (leb (2 ^ 40) taken) refl }
+
+-- the answer is an error, and no push was made
+pub none_made : (a : Result Unit Refusal) → is_err a ≡ true → takes a ≡ 0
+unfolding takes
+none_made (Ok u) e = absurd (true≢false (sym e))
+none_made (Err f) e = refl
+
+-- it is none, and one was made
+pub one_made : (a : Result Unit Refusal) → is_err a ≡ false → takes a ≡ 0 → ⊥
+unfolding takes
+one_made (Ok u) e z = omega (arith, z)
+one_made (Err f) e z = true≢false e
 
 pub is_taken : (a : Result Unit Refusal) → (takes a ≡ 0 → ⊥) → a ≡ Ok tt
 unfolding takes

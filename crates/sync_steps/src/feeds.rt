@@ -6,7 +6,7 @@ ghost use Rattle.sync_inputs.specs.Inputs.{inputs_of};
 
 use bits::Refusal;
 use sync_frames::{Drained, drain, nothing};
-use sync_inputs::{Source, answer_to, made, push_of};
+use sync_inputs::{Source, answer_to, push_of};
 use sync_numbers::Numbers;
 use sync_pushes::{brought, enough, search};
 use sync_rules::MOST_HELD;
@@ -44,7 +44,7 @@ pub fn feed_into(
             };
         };
         let answer = answer_to(numbers.figures.taken, given.dibit, room.len());
-        if made(answer) == 0 {
+        if answer.is_err() {
             return Into {
                 answer,
                 took,
