@@ -331,7 +331,7 @@ pub record Demand1 : Type 0 where
       → FedBy room room' (fed_of (length room) (softly dibits reliable) (view s)) r → FeedRefuses s (softly dibits reliable) room r room'
   pub feed_packed : (s : Synchroniser) (bytes : List ℕ) (start : ℕ) (room : List ℕ) (r : Fed) (room' : List ℕ)
       → FedBy room room' (fed_of (length room) (hardly (drop start (unpacked bytes))) (view s)) r → FeedRefuses s (hardly (drop start (unpacked bytes))) room r room'
-  -- recorder_lines::step (the lines of a listing or of the slips) and recorder::step (records or speech), whatever they make of the frames
+  -- recorder_steps::step, whatever is laid of the frames; by it recorder_lines::step (the lines of a listing or of the slips) and recorder::step (records or speech)
   pub step : (p : Making) → Sequential p → (r : Recorder) (bytes : List ℕ) (from : ℕ) (out : List ℕ) (a : Stepped) (out' : List ℕ)
       → SteppedBy p out out' (dibits_of bytes from) r a → StepRefuses p r (dibits_of bytes from) out a out'
   -- merge_recorder

@@ -10,13 +10,13 @@ ghost use Rattle.field_rules.specs.Field.{product, quotient, power};
 mod constants;
 mod tables;
 
-pub use tables::Tables;
+pub use tables::{LogTable, PowerTable, Tables, power_by, powers};
 
 // Gives the i-th power of 2.
 pub fn power(i: usize) -> u8
     ensures { result ≡ power i }
 {
-    Tables::new().power(i)
+    power_by(&powers(), i)
 }
 
 // Gives a times b.

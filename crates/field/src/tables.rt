@@ -5,14 +5,35 @@ ghost use Rattle.field.specs.Lent.{Powers, Logs};
 
 use crate::constants::{LOGS, POWERS};
 
+// The powers of 2 as a table that a caller lends. The layers above pass it on by this name and know nothing of its length.
+pub type PowerTable = [u8; 510];
+
+// The logarithm of each byte to the base 2; entry 0 is never used.
+pub type LogTable = [u8; 256];
+
 // The powers of 2, and the logarithm of each byte to the base 2, whose entry 0 is never used. The layers above pass the value on and know nothing of what
 // it holds, so that a `field` with smaller tables, or with none, can stand in for this crate.
 #[derive(Clone, Copy)]
 pub struct Tables {
-    pub powers: [u8; 510],
-    pub logs: [u8; 256],
+    pub powers: PowerTable,
+    pub logs: LogTable,
     pub ghost powers_kept: { Powers powers },
     pub ghost logs_kept: { Logs logs },
+}
+
+// Gives the table of powers alone, for a caller to lend.
+pub fn powers() -> PowerTable
+    ensures { Powers result }
+{
+    POWERS
+}
+
+// Gives the i-th power of 2 by the lent table of powers, for any i: the powers come again after 255. No logarithm is needed for it.
+pub fn power_by(powers: &PowerTable, i: usize) -> u8
+    requires { Powers powers.now }
+    ensures { result ≡ power i }
+{
+    powers[i % 255]
 }
 
 impl Tables {
@@ -35,7 +56,7 @@ impl Tables {
     pub fn power(&self, i: usize) -> u8
         ensures { result ≡ power i }
     {
-        self.powers[i % 255]
+        power_by(&self.powers, i)
     }
 
     // Gives a times b: the power whose exponent is the sum of the logarithms, and 0 where a or b is 0.

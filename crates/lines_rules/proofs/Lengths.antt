@@ -61,6 +61,20 @@ pub between_short : (b : Option Entry) → length (between_text b) ≤ 69
 between_short None = omega arith
 between_short (Some e) = listed_short e.offset e.body
 
+pub end_short : (a b c : ℕ) → length (end_text a b c) ≤ 68
+end_short a b c =
+    let k = digits_few 20 a in
+    let m = digits_few 20 b in
+    let n = digits_few 20 c in
+    simp length-append (omega arith)
+
+pub slips_end_short : (frames slips : ℕ) (net : ℤ) → length (slips_end_text frames slips net) ≤ 69
+slips_end_short frames slips net =
+    let k = digits_few 20 frames in
+    let m = digits_few 20 slips in
+    let n = signed_few net in
+    simp length-append (omega arith)
+
 pub refused_short : (first second : ℕ) → length (refused_text first second) ≤ 50
 refused_short first second =
     let a = digits_few 20 first in

@@ -28,6 +28,7 @@ pub fn stretch(k: Numbers, l: Numbers, one: usize, two: usize) -> usize
 }
 
 // Tells how far a stream is settled after a feed: a recording that had no dibit, or whose push was refused, has ended.
+#[tactic(auto, unfolding(crate::specs::Stretches::settled_by))]
 pub fn settled_after(d: Into) -> Option<u64>
     ensures { result ≡ settled_by d.took d.answer d.drained.numbers.figures.clock }
 {

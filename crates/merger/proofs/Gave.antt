@@ -26,7 +26,7 @@ use Rattle.merger_rules.specs.States.{below_of, IsNear, Fair, key_at, Nowhere, S
 use Rattle.merger_rules.proofs.Homes.{stops, at_home, no_home, in_order}
 use Rattle.merger_rules.proofs.Sound.{join_sound, open_sound}
 
-key_take : (n : ℕ) (l : List Position) (i : ℕ) → i < n → key_at (take n l) i ≡ key_at l i
+pub key_take : (n : ℕ) (l : List Position) (i : ℕ) → i < n → key_at (take n l) i ≡ key_at l i
 key_take n l i h = ap (λ (p : Position). p.key) (get_or-take n l i no_position h)
 
 -- a record from one equation

@@ -25,6 +25,12 @@ asked_sequential Untried table = journal_sequential untried
 asked_sequential Decoded table = journal_sequential (tried_of table)
 asked_sequential Speech table = speaking_sequential table
 
+-- what it may need fits in the memory that programs lend
+pub asked_need : (a : Asked) (table : List ℕ) → (making_of a table).need ≤ 768
+asked_need Untried table = omega arith
+asked_need Decoded table = omega arith
+asked_need Speech table = omega arith
+
 -- what a record says of an envelope the journal takes
 pub as_fair : (decoded : Bool) (table : List ℕ) → FairTrying (tried_as decoded table)
 as_fair true table envelope = tried_fair table envelope
@@ -35,7 +41,7 @@ as_fair false table envelope = refl
 records_few : (try : Trying) (e : Option ℕ) (gs : List Got) → All WholeFrame gs → length ((journal try).bytes e gs) ≤ 128 * length gs
 records_few try e gs w = omega (arith, records_long e (frames_of try gs) (whole_sized try gs w), pieces_few try e gs)
 
-made_few : (a : Asked) (table : List ℕ) (e : Option ℕ) (gs : List Got) → All WholeFrame gs → length ((making_of a table).bytes e gs) ≤ share_of a * length gs
+pub made_few : (a : Asked) (table : List ℕ) (e : Option ℕ) (gs : List Got) → All WholeFrame gs → length ((making_of a table).bytes e gs) ≤ share_of a * length gs
 made_few Untried table e gs w = records_few untried e gs w
 made_few Decoded table e gs w = records_few (tried_of table) e gs w
 made_few Speech table e gs w = speech_few table e gs

@@ -51,7 +51,7 @@ none_accepted : (w : Wanted) (envelope : List ℕ) → (making_of w).accepts env
 none_accepted Listing envelope = refl
 none_accepted Slips envelope = refl
 
-module _ (w : Wanted) (out mid left : List ℕ) (before : Laid) (h : Head) (behind size : ℕ) where
+module _ (w : Wanted) (out mid left : List ℕ) (before after : Laid) (h : Head) (behind : ℕ) where
   abbrev gap : List ℕ
   gap = wanted_gap w before.earlier h.offset
 
@@ -59,15 +59,16 @@ module _ (w : Wanted) (out mid left : List ℕ) (before : Laid) (h : Head) (behi
   line = wanted_line w h
 
   -- both lines put, one behind the other
-  pub one_laid : behind ≡ before.size + length gap → mid ≡ sets out before.size gap → size ≡ behind + length line → left ≡ sets mid behind line
-      → (envelope : List ℕ) → LaidBy (making_of w) out left before (record { head = h; envelope = envelope } ∷ []) (record { size = size; accepted = before.accepted; earlier = Some h.offset })
+  pub one_laid : behind ≡ before.size + length gap → mid ≡ sets out before.size gap → after.size ≡ behind + length line → left ≡ sets mid behind line
+      → after.accepted ≡ before.accepted → after.earlier ≡ Some h.offset
+      → (envelope : List ℕ) → LaidBy (making_of w) out left before (record { head = h; envelope = envelope } ∷ []) after
   unfolding earlier_after accepted_in
-  one_laid at first end second envelope =
+  one_laid at first end second count last envelope =
       let made = made_of_one w before.earlier (record { head = h; envelope = envelope }) in
       let none : ◌≡◌ {A = ℕ} (cond ((making_of w).accepts envelope) 1 0) 0 = ap (λ (b : Bool). cond {A = ℕ} b 1 0) (none_accepted w envelope) in
       record {
         size = omega (arith, length-append gap line, ap length made);
         accepted = omega arith;
-        earlier = refl;
+        earlier = last;
         stored = second ∙ ap₂ (λ (l : List ℕ) (i : ℕ). sets l i line) first at ∙ sets_append out before.size gap line ∙ ap (sets out before.size) (sym made);
       }

@@ -3,7 +3,9 @@
 
 #![tactic(auto)]
 
-ghost use Rattle.std.specs.Prelude.{◌≡◌, List, [], ◌∷◌, ℕ, ◌+◌, ◌≤◌, ◌<◌, length};
+ghost use Rattle.std.specs.Prelude.{◌≡◌, cond, List, [], ◌∷◌, ℕ, ◌+◌, ◌≤◌, ◌<◌, length};
+ghost use Rattle.frame_outcomes.specs.Outcomes.{tried_by};
+ghost use Rattle.recorder_rules.specs.Makings.{is_accepted};
 ghost use Rattle.recorder_rules.specs.Steps.{LaidBy};
 ghost use Rattle.texts_rules.specs.Text.{line_of};
 ghost use Rattle.voice_rules.specs.Calls.{decode_answer};
@@ -28,6 +30,13 @@ fn answer_line(offset: u64, decoded: Result<Speech, Refusal>) -> Line
     }
 }
 
+// Gives 1 for an answer that accepts, and 0 for a refusal.
+fn accepted_by(decoded: Result<Speech, Refusal>) -> usize
+    ensures { result ≡ cond (is_accepted (tried_by decoded).outcome) 1 0 }
+{
+    usize::from(decoded.is_ok())
+}
+
 // Lays the line of the gap before a frame, where there is one, and that of the frame by the decoder's answer, behind what is there.
 pub fn put_speech(
     before: Laid,
@@ -45,7 +54,7 @@ pub fn put_speech(
     let size = put_line(line, behind, out);
     Laid {
         size,
-        accepted: before.accepted + usize::from(decoded.is_ok()),
+        accepted: before.accepted + accepted_by(decoded),
         earlier: Some(head.offset),
     }
 }

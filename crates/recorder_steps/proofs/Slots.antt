@@ -10,7 +10,8 @@ use native.Mathlib.Omega.{arith}
 use lib.ListN.{length, get_or, take, drop, length-take, length-drop}
 use lib.Seq.{length-sets, take-suc, length-take-le}
 use Rattle.bits.proofs.Conds.{cond_both}
-use Rattle.recorder_rules.specs.Makings.{Making, Sequential, accepted_in}
+use Rattle.bits.specs.Alls.{All}
+use Rattle.recorder_rules.specs.Makings.{Making, Sequential, WholeFrame, accepted_in}
 use Rattle.recorder_rules.specs.Steps.{LaidBy}
 use Rattle.recorder_rules.specs.declared.Laid.{Laid}
 use Rattle.recorder_rules.proofs.Laying.{laid_append}
@@ -23,7 +24,7 @@ use Rattle.sync_rules.specs.declared.Head.{Head}
 abbrev in_slot : Head → List ℕ → ℕ → Got
 in_slot h room k = record { head = h; envelope = take 48 (drop (slot_size * k) room) }
 
-slots_append : (hs js : List Head) (room : List ℕ) (k : ℕ) → slots (hs ++ js) room k ≡ slots hs room k ++ slots js room (k + length hs)
+pub slots_append : (hs js : List Head) (room : List ℕ) (k : ℕ) → slots (hs ++ js) room k ≡ slots hs room k ++ slots js room (k + length hs)
 unfolding slots
 slots_append [] js room k = let e : k ≡ k + 0 = omega arith in ap (slots js room) e
 slots_append (h ∷ hs) js room k =
@@ -61,6 +62,15 @@ laid_length p out left before after gs l = ap length l.stored ∙ length-sets ou
 -- a slot's envelope is whole
 pub slot_whole : (room : List ℕ) (k : ℕ) (envelope : List ℕ) → slot_size * k + 48 ≤ length room → envelope ≡ take 48 (drop (slot_size * k) room) → length envelope ≡ 48
 slot_whole room k envelope h e = ap length e ∙ omega (arith, length-take 48 (drop (slot_size * k) room), length-drop (slot_size * k) room)
+
+whole_from : (hs : List Head) (room : List ℕ) (j : ℕ) → slot_size * (j + length hs) ≤ length room → All WholeFrame (slots hs room j)
+unfolding slots
+whole_from [] room j h = tt
+whole_from (g ∷ hs) room j h =
+    (omega (arith, length-take 48 (drop (slot_size * j) room), length-drop (slot_size * j) room), whole_from hs room (suc j) (omega arith))
+
+pub slots_whole : (heads : List Head) (room : List ℕ) (k : ℕ) → slot_size * k ≤ length room → All WholeFrame (slots (take k heads) room 0)
+slots_whole heads room k h = whole_from (take k heads) room 0 (omega (arith, length-take k heads))
 
 -- where n of three shares are taken there is room for another
 pub share_more : (share n : ℕ) → n < 3 → share * n + share ≤ 3 * share

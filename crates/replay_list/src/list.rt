@@ -10,7 +10,7 @@ use std::rt::Clock;
 // No input and no answer of a case is longer.
 const MOST_BYTES: usize = 4000;
 
-// kept: the kind is a number, by what may not change: a list may name kinds that there are not, and each is answered (docs/REPLAY.md).
+// kept: the kind is a number, by what may not change: a list may name a kind that there is not, and a case of such a kind ends it (docs/REPLAY.md).
 // A case in the window: its input lies from `input` to `middle`, its expected answer from `expected` to `next`. The bytes read end at `end`.
 #[derive(Clone, Copy)]
 pub struct Case {

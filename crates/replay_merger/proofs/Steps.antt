@@ -15,12 +15,12 @@ use Rattle.merger_rules.specs.Scripts.{given}
 use Rattle.replay_merger_bytes.specs.MergerBytes.{release_bytes}
 use Rattle.replay_merger.specs.Merges.{frames_bytes, is_gone}
 
-frames_one : (r : Release) → frames_bytes (r ∷ []) ≡ release_bytes r
+pub frames_one : (r : Release) → frames_bytes (r ∷ []) ≡ release_bytes r
 unfolding frames_bytes
 frames_one r = append-nil (release_bytes r)
 
 -- no frame
-frames_none : (out : List ℕ) (to : ℕ) → to ≤ length out → Put out to (frames_bytes []) out to
+pub frames_none : (out : List ℕ) (to : ℕ) → to ≤ length out → Put out to (frames_bytes []) out to
 unfolding frames_bytes
 frames_none out to h = put_none out to to (omega arith)
 

@@ -95,16 +95,20 @@ pub fn synchroniser_case(
     ensures turned { Turned (turn_of kind room.old input.now (view s)) s size room.old room.new out.old out.new result }
     ensures sound { ValidSynchroniser result.sync }
 {
+    let mut after = Synchronised { size, sync: s };
     match Kind::try_from(kind) {
-        Ok(Kind::NewSynchroniser) => Synchronised {
-            size: Some(0),
-            sync: Synchroniser::new(),
-        },
-        Ok(Kind::Push) => pushed(s, input, room, out),
-        Ok(Kind::SoftPush) => pushed_soft(s, input, room, out),
-        Ok(Kind::Feed) => fed(s, input, room, out),
-        Ok(Kind::SoftFeed) => fed_soft(s, input, room, out),
-        Ok(Kind::PackedFeed) => fed_packed(s, input, room, out),
-        _ => Synchronised { size, sync: s },
+        Ok(Kind::NewSynchroniser) => {
+            after = Synchronised {
+                size: Some(0),
+                sync: Synchroniser::new(),
+            };
+        }
+        Ok(Kind::Push) => after = pushed(s, input, room, out),
+        Ok(Kind::SoftPush) => after = pushed_soft(s, input, room, out),
+        Ok(Kind::Feed) => after = fed(s, input, room, out),
+        Ok(Kind::SoftFeed) => after = fed_soft(s, input, room, out),
+        Ok(Kind::PackedFeed) => after = fed_packed(s, input, room, out),
+        _ => {}
     }
+    after
 }

@@ -30,6 +30,7 @@ fn new_table(table: &mut [u8], bytes: &[u8], out: &mut [u8]) -> Answered
 }
 
 // Answers a case that leaves the table in force as it is. No other kind has cases.
+#[inline(never)]
 fn answer(kind: u8, table: &[u8], input: &[u8], out: &mut [u8]) -> Option<usize>
     ensures { Told (kind_case kind table.now input.now) out.old out.new result }
 {

@@ -13,7 +13,7 @@ use bits::Refusal;
 use field::Tables;
 use tail_correcting::correct;
 use tail_places::{all_zero, locate, syndromes_of};
-use tail_rules::RepairedTail;
+pub use tail_rules::RepairedTail;
 
 // kept: a `for`, for speed: as in `zeros` of `tail_places`, a chain that counts executes more.
 // Counts the bytes in which the two differ.

@@ -40,7 +40,7 @@ use Rattle.voice_corrected_rules.specs.Statements.{FewCorrected}
 
 -- ---- the bits of bytes that differ
 
-byte_few : (x y : ℕ) → x < 256 → y < 256 → ones (bit_xor x y) ≤ 8
+pub byte_few : (x y : ℕ) → x < 256 → y < 256 → ones (bit_xor x y) ≤ 8
 byte_few x y hx hy = ones-le 8 (bit_xor x y) (xor_lt 8 x y hx hy)
 
 byte_more : (x y : ℕ) → x < 256 → y < 256 → (m n : ℕ) → m ≤ 8 * n → ones (bit_xor y x) + m ≤ 8 * one_if false (eqb x y) n

@@ -1,7 +1,6 @@
 -- `put_speech`: the gap's line, then the frame's.
 -- Assumes nothing.
-use mir.Val.{bool_byte}
-use mathlib.Core.Path.{◌≡◌, refl, ap, ◌∙◌}
+use mathlib.Core.Path.{◌≡◌, refl, ap}
 use Prim.Native.Nat.{ℕ, ◌+◌}
 use native.Mathlib.Omega.{arith}
 use lib.ListN.{length}
@@ -11,7 +10,7 @@ use Rattle.lines_rules.proofs.Lengths.{between_short}
 use Rattle.lines_laying.proofs.Lines.{line_size}
 use Rattle.recorder_asks.specs.Asks.{decoded_text}
 use Rattle.recorder_asks.proofs.Speaking.{answer_few}
-use Rattle.recorder_speech.proofs.Spoken.{one_is, speech_laid}
+use Rattle.recorder_speech.proofs.Spoken.{one_few, speech_laid}
 use borrow.Author.Rules.{rules}
 use Rattle.recorder_speech.proofs.put_speech.Goals as goal
 
@@ -34,10 +33,13 @@ put_line-size-requires c =
     let same : length c.put_line-behind.new.out ≡ length a.out.now = search rules in
     record { fact_1 = omega arith; fact_2 = omega (arith, c.requires.fact_1, between_short b) }
 
+pub overflow_add-result : goal.overflow_add-result
+overflow_add-result c =
+    omega (arith, c.requires.fact_2, c.accepted_by.ensures, one_few c.args.decoded)
+
 pub returns : goal.returns
 returns c =
     let a = c.args in
     let t = between_text (gap_to a.before.earlier a.head.offset) in
     let u = decoded_text a.head.offset a.decoded in
-    let counted = c.from.ensures ∙ ap bool_byte c.is_ok.ensures.value ∙ one_is a.decoded in
-    speech_laid a.out.now _ _ a.before _ a.head a.decoded c.put_line-behind.result (c.put_line-behind.ensures.end t c.gap_before-gap.ensures) (c.put_line-behind.ensures.stored t c.gap_before-gap.ensures) (c.put_line-size.ensures.end u c.answer_line-line.ensures) (c.put_line-size.ensures.stored u c.answer_line-line.ensures) (ap (λ (n : ℕ). a.before.accepted + n) counted) refl
+    speech_laid a.out.now _ _ a.before _ a.head a.decoded c.put_line-behind.result (c.put_line-behind.ensures.end t c.gap_before-gap.ensures) (c.put_line-behind.ensures.stored t c.gap_before-gap.ensures) (c.put_line-size.ensures.end u c.answer_line-line.ensures) (c.put_line-size.ensures.stored u c.answer_line-line.ensures) (ap (λ (n : ℕ). a.before.accepted + n) c.accepted_by.ensures) refl

@@ -6,4 +6,4 @@ use Rattle.recorder.proofs.laying.AskingLays.lay_frame.Goals as goal
 pub returns-clause-size : goal.returns-clause-size
 returns-clause-size c =
     let s = c.args.self.now in
-    laid_few s.asked s.table.now _ _ _ _ _ c.requires.whole c.lay_frame.ensures
+    laid_few s.asked _ _ _ _ _ _ c.requires.whole c.lay_frame.ensures

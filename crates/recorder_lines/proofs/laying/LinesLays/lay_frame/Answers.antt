@@ -1,6 +1,6 @@
 -- `lay_frame`: the gap's line, then the frame's.
 -- Assumes nothing.
-use Rattle.std.proofs.Common.{arith}
+use Rattle.std.proofs.Common.{arith, rules}
 use Rattle.lines_laying.specs.Wants.{wanted_gap}
 use Rattle.lines_laying.proofs.Lines.{line_size}
 use Rattle.recorder_lines.proofs.Frames.{gap_few, line_few, one_laid}
@@ -39,4 +39,4 @@ returns-clause-laid c =
     let a = c.args in
     let gap = c.put_line-behind.ensures in
     let line = c.put_line.ensures in
-    one_laid a.self.now.wanted a.out.now _ _ a.before a.head _ _ (gap.end _ c.wanted_gap-gap.ensures) (gap.stored _ c.wanted_gap-gap.ensures) (line.end _ c.wanted_line-line.ensures) (line.stored _ c.wanted_line-line.ensures) _
+    one_laid a.self.now.wanted a.out.now _ _ a.before _ a.head _ (gap.end _ c.wanted_gap-gap.ensures) (gap.stored _ c.wanted_gap-gap.ensures) (line.end _ c.wanted_line-line.ensures) (line.stored _ c.wanted_line-line.ensures) (search rules) (search rules) _
