@@ -1,6 +1,6 @@
 -- What is laid of one frame: the gap's line, then its own.
 -- Assumes nothing.
-use Rattle.std.proofs.Common.{Option, Some, None, Result}
+use Rattle.std.proofs.Common.{Option, Some, None, Result, Ok, Err, is_ok, Bool}
 use mathlib.Core.Bool.{cond}
 use mathlib.Core.List.{List, [], ◌∷◌, ◌++◌, append-nil}
 use mathlib.Core.Path.{◌≡◌, refl, sym, ap, ap₂, ◌∙◌}
@@ -9,6 +9,7 @@ use native.Mathlib.Omega.{arith}
 use lib.Dec.{ltb}
 use lib.ListN.{length, length-append}
 use lib.Seq.{sets}
+use mir.Val.{bool_byte}
 use Rattle.bits.proofs.Conds.{cond_both}
 use Rattle.bits.specs.Sizes.{frame_bits}
 use Rattle.frame_outcomes.specs.Outcomes.{tried_by}
@@ -41,6 +42,11 @@ spoken_one table e g =
     let p = piece_of (framed_of untried g) in
     rendered_append (spoken_text table) (gap_pieces (gap_to e g.head.offset)) (p ∷ [])
     ∙ ap₂ (λ (a b : List ℕ). a ++ b) (gap_spoken table e g.head.offset) (append-nil (spoken_text table p))
+
+-- a speech counts as accepted, and a refusal does not
+pub one_is : (d : Result Speech Refusal) → bool_byte (is_ok d) ≡ cond {A = ℕ} (is_accepted (tried_by d).outcome) 1 0
+one_is (Ok s) = refl
+one_is (Err x) = refl
 
 -- a frame counts once at most
 pub one_few : (d : Result Speech Refusal) → cond (is_accepted (tried_by d).outcome) 1 0 ≤ 1

@@ -40,7 +40,9 @@ fn put_figures(out: &mut [u8], to: usize, s: Synchroniser) -> usize
     put_number(out, d, s.settled(), 8)
 }
 
-// Puts the status and, where the push was taken, the frames and the figures.
+// Puts the status and, where the push was taken, the frames and the figures. It is written into its callers: where it is a call, the memory of its answer is
+// cleared before it.
+#[inline(always)]
 pub fn put_pushed(out: &mut [u8], to: usize, p: Pushed, room: &[u8]) -> Synchronised
     requires { ValidSynchroniser p.next }
     ensures { Shown p to room.now out.old out.new result }

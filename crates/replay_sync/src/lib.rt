@@ -95,6 +95,7 @@ pub fn synchroniser_case(
     ensures turned { Turned (turn_of kind room.old input.now (view s)) s size room.old room.new out.old out.new result }
     ensures sound { ValidSynchroniser result.sync }
 {
+    // where the arms' answers are joined behind the match, the memory for them is cleared for each case
     let mut after = Synchronised { size, sync: s };
     match Kind::try_from(kind) {
         Ok(Kind::NewSynchroniser) => {

@@ -29,7 +29,8 @@ fn new_table(table: &mut [u8], bytes: &[u8], out: &mut [u8]) -> Answered
     }
 }
 
-// Answers a case that leaves the table in force as it is. No other kind has cases.
+// Answers a case that leaves the table in force as it is. No other kind has cases. It stays a call: inside the loop over the cases the answers of the other
+// kinds are cleared for each case.
 #[inline(never)]
 fn answer(kind: u8, table: &[u8], input: &[u8], out: &mut [u8]) -> Option<usize>
     ensures { Told (kind_case kind table.now input.now) out.old out.new result }
