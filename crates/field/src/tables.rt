@@ -5,7 +5,7 @@ ghost use Rattle.field.specs.Lent.{Powers, Logs};
 
 use crate::constants::{LOGS, POWERS};
 
-// The powers of 2 as a table that a caller lends. The layers above pass it on by this name and know nothing of its length.
+// The first 510 powers of 2, as a caller lends them to `power_by`: two logarithms add up to less than 510.
 pub type PowerTable = [u8; 510];
 
 // The logarithm of each byte to the base 2; entry 0 is never used.
@@ -21,7 +21,7 @@ pub struct Tables {
     pub ghost logs_kept: { Logs logs },
 }
 
-// Gives the table of powers alone, for a caller to lend.
+// Gives the table of powers alone, for a caller who needs no product.
 pub fn powers() -> PowerTable
     ensures { Powers result }
 {
